@@ -1,0 +1,5 @@
+-- What a table says (document 01, "The rack table"): words and records, the chain, the tree, the refusals. Read in this order.
+pub mod Lists
+pub mod Table
+pub mod Tree
+pub mod Refusal

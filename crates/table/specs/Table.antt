@@ -1,0 +1,48 @@
+-- Words, records and the chain of a table of bytes (document 01, "The rack table").
+use mathlib.Core.List.{List, [], _∷_}
+use Prim.Native.Nat.{ℕ, zero, suc, _+_, _*_, _/_}
+use lib.ListN.{length, getD}
+
+-- "A table is bytes, in records of 8": how many records, the head counted
+abbrev pub records : List ℕ → ℕ
+records t = length t / 8
+
+-- "Each record has four unsigned 16-bit words, low byte first": word j of record k
+unfoldable pub word : List ℕ → ℕ → ℕ → ℕ
+word t k j = getD t (8 * k + 2 * j) 0 + 256 * getD t (8 * k + 2 * j + 1) 0
+
+-- "next, left, right, tag"
+abbrev pub nextOf : List ℕ → ℕ → ℕ
+nextOf t k = word t k 0
+
+abbrev pub leftOf : List ℕ → ℕ → ℕ
+leftOf t k = word t k 1
+
+abbrev pub rightOf : List ℕ → ℕ → ℕ
+rightOf t k = word t k 2
+
+abbrev pub tagOf : List ℕ → ℕ → ℕ
+tagOf t k = word t k 3
+
+-- A side of a node; its link on that side.
+pub data Side : Type 0 where
+  left right : Side
+
+abbrev pub linkOf : List ℕ → Side → ℕ → ℕ
+linkOf t left k = leftOf t k
+linkOf t right k = rightOf t k
+
+-- "Record 0 is the head: next names the first record of the chain, left names the root"
+abbrev pub rootOf : List ℕ → ℕ
+rootOf t = leftOf t 0
+
+-- "each next names the following box; zero ends the chain": the records from k on, at most n of them
+unfoldable pub follow : ℕ → List ℕ → ℕ → List ℕ
+follow zero t k = []
+follow (suc n) t zero = []
+follow (suc n) t (suc k) = suc k ∷ follow n t (nextOf t (suc k))
+
+-- The chain, "starting at the head, which is no box and not on the chain". It is followed for as many steps as there are records: a chain of so many records
+-- goes beyond the table or meets one twice, and is refused with 3.
+unfoldable pub chain : List ℕ → List ℕ
+chain t = follow (records t) t (nextOf t 0)
