@@ -1,0 +1,34 @@
+-- The drawer's whole answer for any bytes and placements: refusal, plan, and every placement afterwards (document 01, "The rack table", "How the contracts bind").
+use mathlib.Core.Bool.{Bool, true, false}
+use mathlib.Core.List.{List}
+use Prim.Native.Nat.{ℕ, _+_, _*_}
+use lib.Dec.{eqb}
+use lib.ListN.{length, set}
+use Rattle.table.specs.Table.{chain}
+use Rattle.table.specs.Tree.{tree}
+use Rattle.table.specs.Refusal.{refusal}
+use Rattle.layout.specs.Layout.{Layout, blank, placed, width, height}
+use Rattle.layout.specs.Drawing.{draw}
+use Rattle.drawing.specs.declared.Plan.{Plan}
+use Rattle.drawing.specs.declared.Drawn.{Drawn}
+
+-- "record k has its column at place 2k and its row at 2k + 1. The drawer writes only the entries of chained boxes."
+unfoldable pub store : Layout → List ℕ → List ℕ
+store blank p = p
+store (placed k P a b) p = store b (store a (set (set p (2 * k) (P .column)) (2 * k + 1) (P .row)))
+
+-- "the empty plan (0 boxes, width 0, height 0)"
+abbrev pub emptyPlan : Plan
+emptyPlan = record { nodes = 0; width = 0; height = 0 }
+
+-- The plan of a table: the records on the chain, and the extents of the drawing.
+unfoldable pub planOf : List ℕ → Plan
+planOf t = record { nodes = length (chain t); width = width (draw (tree t)); height = height (draw (tree t)) }
+
+-- The refusal and the plan: the empty plan on a refusal.
+unfoldable pub drawnOf : List ℕ → List ℕ → Drawn
+drawnOf t p = elim (eqb (refusal t (length p)) 0) [ true ↦ record { refusal = 0; plan = planOf t } | false ↦ record { refusal = refusal t (length p); plan = emptyPlan } ]
+
+-- Every placement afterwards: all kept on a refusal.
+unfoldable pub placedIn : List ℕ → List ℕ → List ℕ
+placedIn t p = elim (eqb (refusal t (length p)) 0) [ true ↦ store (draw (tree t)) p | false ↦ p ]

@@ -1,0 +1,2 @@
+-- The drawer's whole answer.
+pub mod Answer
