@@ -2,7 +2,7 @@
 -- "T b" says that the test b passes; a list is distinct if `repeats` is false.
 use mathlib.Core.Path.{_≡_, refl, sym, ap, subst}
 use mathlib.Core.Logic.{_↔_, _⊎_, inl, inr, ⊎-elim, ⊎-map}
-use mathlib.Core.Bool.{Bool, true, false, _||_, cond, or-assoc}
+use mathlib.Core.Bool.{Bool, true, false, not, _||_, cond, or-assoc}
 use mathlib.Core.List.{List, [], _∷_, _++_}
 use Prim.Native.Nat.{ℕ, zero, suc, _+_, _≤_, _<_, zero-le}
 use native.Mathlib.Omega.{arith}
@@ -27,6 +27,10 @@ T-false b = (λ h. go b h, λ e h. subst T e h)
     go : (c : Bool) → (T c → ⊥) → c ≡ false
     go true h = absurd (h tt)
     go false h = refl
+
+pub passes : (b : Bool) → not b ≡ false → T b
+passes true e = tt
+passes false e = subst T e tt
 
 pub or-T : (a b : Bool) → T (a || b) ↔ (T a ⊎ T b)
 or-T true b = (λ h. inl h, λ h. tt)
@@ -83,8 +87,8 @@ alike k n = go (eqb k n) refl
     go true e = inl (eqb-true k n e, refl)
     go false e = inr (eqb-false k n e, refl)
 
-pub same-self : (k : ℕ) → same k k ≡ 1
-same-self k = rw (eq-eqb k k refl)
+pub same-one : (k n : ℕ) → k ≡ n → same k n ≡ 1
+same-one k n e = rw (eq-eqb k n e)
 
 pub count-sum : (k : ℕ) (ks : List ℕ) → count k ks ≡ sum (same k) ks
 unfolding count sum
@@ -127,7 +131,7 @@ unfolding repeats count
 repeats-count [] = (λ e k. omega arith, λ h. refl)
 repeats-count (n ∷ ns) = (
   λ e k. let f = or-false (member n ns) (repeats ns) .0 e in once k (member-none n ns .0 (f .0)) (repeats-count ns .0 (f .1) k) (alike k n),
-  λ h. or-false (member n ns) (repeats ns) .1 (member-none n ns .1 (omega (arith, h n, same-self n)), repeats-count ns .1 (λ k. omega (arith, h k))),
+  λ h. or-false (member n ns) (repeats ns) .1 (member-none n ns .1 (omega (arith, h n, same-one n n refl)), repeats-count ns .1 (λ k. omega (arith, h k))),
 )
   where
     once : (k : ℕ) → count n ns ≡ 0 → count k ns ≤ 1 → Alike k n → same k n + count k ns ≤ 1
@@ -160,23 +164,24 @@ pub sum-within : (f : ℕ → ℕ) (ks cs : List ℕ) → Within ks cs → sum f
 unfolding sum count
 sum-within f [] cs w = zero-le
 sum-within f (k ∷ ks) cs w =
-    let d = rest k cs (omega (arith, w k, same-self k)) in
+    let d = rest k cs (omega (arith, w k, same-one k k refl)) in
     let i = sum-within f ks (d .0) (λ n. omega (arith, w n, count-sum n cs, count-sum n (d .0), d .1 (same n))) in
     omega (arith, d .1 f)
 
 pub length-within : (ks cs : List ℕ) → Within ks cs → length ks ≤ length cs
 length-within ks cs w = omega (arith, length-sum ks, length-sum cs, sum-within (λ k. 1) ks cs w)
 
+pub within-cons : (k : ℕ) (ks cs : List ℕ) → Within ks cs → count k ks < count k cs → Within (k ∷ ks) cs
+unfolding count
+within-cons k ks cs w h n = go (alike n k)
+  where
+    go : Alike n k → same n k + count n ks ≤ count n cs
+    go (inl e) = rw (e .0) (omega (arith, same-one k k refl))
+    go (inr e) = omega (arith, w n)
+
 -- Where the lengths agree, each list stands within the other.
 pub within-back : (ks cs : List ℕ) → Within ks cs → length cs ≤ length ks → Within cs ks
-unfolding count
-within-back ks cs w h k =
-    let less : ¬ (count k ks < count k cs) = λ g. omega (arith, length-within (k ∷ ks) cs (λ n. one n g (alike n k))) in
-    omega arith
-  where
-    one : (n : ℕ) → count k ks < count k cs → Alike n k → same n k + count n ks ≤ count n cs
-    one n g (inl e) = rw (e .0) (omega (arith, same-self k))
-    one n g (inr e) = omega (arith, w n)
+within-back ks cs w h k = let less : ¬ (count k ks < count k cs) = λ g. omega (arith, length-within (k ∷ ks) cs (within-cons k ks cs w g)) in omega arith
 
 pub covers : (ks cs : List ℕ) → Distinct ks → ((k : ℕ) → T (member k ks) → T (member k cs)) → length cs ≤ length ks → (k : ℕ) → T (member k cs) → T (member k ks)
 covers ks cs d h l k m = member-count k ks .1 (omega (arith, within-back ks cs (within ks cs d h) l k, member-count k cs .0 m))
