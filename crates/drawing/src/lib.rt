@@ -1,4 +1,6 @@
 // The drawer: Algorithm BT-Ordered-Draw over a table of records.
+mod stub;
+mod place;
 
 // The extent of a drawing.
 pub struct Plan {

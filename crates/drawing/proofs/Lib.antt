@@ -1,0 +1,8 @@
+-- The laws of placing.
+pub mod Store
+pub mod Shapes
+pub mod Columns
+pub mod Onward
+pub mod Walking
+pub mod Needed
+pub mod Starting
