@@ -3,3 +3,4 @@ pub mod Decides
 pub mod Difference
 pub mod CrossProduct
 pub mod SharedPoint
+pub mod Clashing

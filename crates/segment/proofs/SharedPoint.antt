@@ -1,6 +1,6 @@
 -- Two segments share a point exactly where the test `meets` says so, for all natural coordinates. Rests on the laws of the cross product.
 use mathlib.Core.Path.{_≡_, refl, ap}
-use mathlib.Core.Logic.{_↔_, _≢_, _⊎_, inl, inr, Iff·trans}
+use mathlib.Core.Logic.{_↔_, _≢_, _⊎_, inl, inr}
 use Prim.Native.Nat.{ℕ, _+_, _*_, _≤_, _<_, min, max}
 use native.Mathlib.Nat.{mul-le-mul-left, le-of-mul-le-mul-left, le-dest, min-le-left, min-le-right, le-max-left, le-max-right}
 use native.Mathlib.Decide.{decLe, decLt, ℕ-discrete}
@@ -9,7 +9,7 @@ use lib.Dec.{T}
 use Rattle.segment.specs.declared.Point.{Point}
 use Rattle.segment.specs.Segment.{On, Share, Lies}
 use Rattle.segment.specs.Test.{overlap, astride, meets}
-use Rattle.segment.proofs.Decides.{Decides, le-decides, and-decides, or-decides}
+use Rattle.segment.proofs.Decides.{Decides, le-decides, and-decides, or-decides, same-meaning}
 use Rattle.segment.proofs.Difference.{diff-nonneg, diff-nonpos}
 use Rattle.segment.proofs.CrossProduct.{plus, minus, cross-diff, Weights, weights, on, on-turn, linear, cramer-column, cramer-row}
 
@@ -217,8 +217,11 @@ meets→share P Q R S (n, (o, (a, b))) = go a b
 
 -- ---- the theorem
 
+pub meets-decides-share : (P Q R S : Point) → Decides (meets P Q R S) (Share P Q R S)
+meets-decides-share P Q R S = same-meaning (meets→share P Q R S, share→meets) (meets-decides P Q R S)
+
 pub meets↔share : (P Q R S : Point) → T (meets P Q R S) ↔ Share P Q R S
-meets↔share P Q R S = Iff·trans (meets-decides P Q R S .is) (meets→share P Q R S, share→meets)
+meets↔share P Q R S = meets-decides-share P Q R S .is
 
 -- a segment of one point
 pub share→lies : {B P Q : Point} → Share P Q B B → Lies B P Q
@@ -240,8 +243,11 @@ share→lies {B} h =
 pub lies→share : {B P Q : Point} → Lies B P Q → Share P Q B B
 lies→share {B} l = record { q = l .q; x = l .q * B .column; y = l .q * B .row; q≥1 = l .q≥1; on-PQ = l .on; on-RS = at-start B B (l .q) }
 
+pub lies-decides : (B P Q : Point) → Decides (meets P Q B B) (Lies B P Q)
+lies-decides B P Q = same-meaning (share→lies, lies→share) (meets-decides-share P Q B B)
+
 pub lies↔ : (B P Q : Point) → T (meets P Q B B) ↔ Lies B P Q
-lies↔ B P Q = Iff·trans (meets↔share P Q B B) (share→lies, lies→share)
+lies↔ B P Q = lies-decides B P Q .is
 
 -- segments whose rows are apart share no point
 pub rows-apart : {P Q R S : Point} → max (P .row) (Q .row) < min (R .row) (S .row) → Share P Q R S → ⊥
