@@ -25,6 +25,10 @@ times k L = count k (nodes (shape L))
 abbrev pub pointAt : List ℕ → ℕ → Point
 pointAt p k = at (getD p (2 * k) 0) (getD p (2 * k + 1) 0)
 
+-- A point stored at a record's entries.
+abbrev pub pair : List ℕ → ℕ → Point → List ℕ
+pair p k P = set (set p (2 * k) (P .column)) (2 * k + 1) (P .row)
+
 pub store-length : (L : Layout) (p : List ℕ) → length (store L p) ≡ length p
 unfolding store
 store-length blank p = refl
@@ -48,18 +52,34 @@ unfolding store
 store-kept blank p i out = refl
 store-kept (placed k P a b) p i out =
     store-kept b _ i (λ j h. out j (omega (arith, times-placed j k P a b))) ∙
-    (store-kept a _ i (λ j h. out j (omega (arith, times-placed j k P a b))) ∙
-    (getD-set-other _ _ _ _ _ (here .1) ∙ getD-set-other _ _ _ _ _ (here .0)))
+    (store-kept a (pair p k P) i (λ j h. out j (omega (arith, times-placed j k P a b))) ∙
+    (getD-set-other (set p (2 * k) (P .column)) (2 * k + 1) i (P .row) 0 (here .1) ∙ getD-set-other p (2 * k) i (P .column) 0 (here .0)))
   where
     here : (i ≢ 2 * k) × (i ≢ 2 * k + 1)
     here = out k (omega (arith, times-placed k k P a b, same-one k k refl))
 
 -- The entries of a record that the layout does not have.
 kept-point : (L : Layout) (p : List ℕ) (j : ℕ) → times j L ≡ 0 → pointAt (store L p) j ≡ pointAt p j
-kept-point L p j none = ap₂ at (store-kept L p (2 * j) (out 0)) (store-kept L p (2 * j + 1) (out 1))
+kept-point L p j none = ap₂ at (store-kept L p (2 * j) (λ k h. (λ e. other k h (omega arith), λ e. omega arith))) (store-kept L p (2 * j + 1) (λ k h. (λ e. omega arith, λ e. other k h (omega arith))))
   where
-    out : (w : ℕ) → Outside (2 * j + w) L
-    out w = ?
+    other : (k : ℕ) → 1 ≤ times k L → j ≡ k → ⊥
+    other k h e = omega (arith, ap (λ (n : ℕ). times n L) e)
+
+-- What is stored at one record.
+pair-point : (p : List ℕ) (k : ℕ) (P : Point) → 2 * k + 1 < length p → pointAt (pair p k P) k ≡ P
+pair-point p k P room = ap₂ at
+    (getD-set-other (set p (2 * k) (P .column)) (2 * k + 1) (2 * k) (P .row) 0 (λ e. omega arith) ∙ getD-set-same p (2 * k) (P .column) 0 (omega arith))
+    (getD-set-same (set p (2 * k) (P .column)) (2 * k + 1) (P .row) 0 (simp length-set room))
 
 pub store-point : (L : Layout) (p : List ℕ) → ((k : ℕ) → times k L ≤ 1) → ((k : ℕ) → 1 ≤ times k L → 2 * k + 1 < length p) → (n : Node L) → pointAt (store L p) (recordOf n) ≡ point n
-store-point L p once room n = ?
+unfolding store
+store-point (placed k P a b) p once room root =
+    kept-point b (store a (pair p k P)) k (omega (arith, once k, times-placed k k P a b, same-one k k refl)) ∙
+    (kept-point a (pair p k P) k (omega (arith, once k, times-placed k k P a b, same-one k k refl)) ∙
+    pair-point p k P (room k (omega (arith, times-placed k k P a b, same-one k k refl))))
+store-point (placed k P a b) p once room (left-node n) =
+    kept-point b (store a (pair p k P)) (recordOf n) (omega (arith, once (recordOf n), times-placed (recordOf n) k P a b, times-node a n)) ∙
+    store-point a (pair p k P) (λ j. omega (arith, once j, times-placed j k P a b)) (λ j h. simp length-set (room j (omega (arith, times-placed j k P a b)))) n
+store-point (placed k P a b) p once room (right-node n) =
+    store-point b (store a (pair p k P)) (λ j. omega (arith, once j, times-placed j k P a b))
+    (λ j h. rw (store-length a (pair p k P)) (simp length-set (room j (omega (arith, times-placed j k P a b))))) n

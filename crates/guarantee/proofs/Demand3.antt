@@ -1,30 +1,29 @@
 -- Demand 3 over the definitions: `kept`, for all bytes and placements. Rests on the theorem on layouts and on the laws of an accepted table.
 use mathlib.Core.Path.{_≡_, refl, sym, ap, subst, _∙_}
-use mathlib.Core.Bool.{Bool, true, false, cond, _||_}
-use mathlib.Core.Logic.{_⊎_, inl, inr, _≢_}
-use mathlib.Core.List.{List, []}
-use Prim.Native.Nat.{ℕ, zero, suc, _+_, _*_, _^_, _≤_, _<_}
+use mathlib.Core.Logic.{inl, inr}
+use mathlib.Core.List.{List}
+use Prim.Native.Nat.{ℕ, zero, suc, _+_, _*_, _≤_, _<_}
 use native.Mathlib.Omega.{arith}
-use lib.Dec.{T, eqb, ltb}
+use lib.Dec.{T}
 use lib.ListN.{length}
-use borrow.Author.Tests.{eq-eqb, ne-eqb, eqb-true, le-ltb}
-use Rattle.segment.specs.declared.Point.{Point}
-use Rattle.segment.specs.Segment.{cross}
 use Rattle.segment.proofs.CrossProduct.{cross-negative}
-use Rattle.table.specs.Table.{Side, left, right, chain, records}
-use Rattle.table.specs.Tree.{Tree, none, node, size, tree}
+use Rattle.table.specs.Lists.{count}
+use Rattle.table.specs.Table.{records, chain}
+use Rattle.table.specs.Tree.{Tree, none, node, size, nodes, tree}
 use Rattle.table.specs.Refusal.{fault, refusal}
-use Rattle.table.proofs.Accepted.{refusal-none, records-bounds, chain-length, size-chain}
+use Rattle.table.proofs.Accepted.{refusal-none, records-bounds, chain-within, chain-length, nodes-chain, nodes-distinct, size-chain}
+use Rattle.table.proofs.Lists.{repeats-count, member-count}
 use Rattle.layout.specs.Layout.{Layout, width, height}
 use Rattle.layout.specs.Drawing.{drawing, draw}
 use Rattle.layout.proofs.Theorem.{promise}
 use Rattle.layout.proofs.Records.{Agrees, Checked, drawn-checked}
 use Rattle.drawing.specs.Answer.{store, planOf, drawnOf, placedIn}
 use Rattle.drawing.specs.declared.Drawn.{Drawn}
+use Rattle.drawing.proofs.Store.{times, store-length, store-point}
 use Rattle.drawing.proofs.Answered.{Accepted, accepted, drawn-refusal}
 use Rattle.verdict.specs.Lines.{pointOf}
-use Rattle.verdict.specs.Conditions.{SamePoint, NotLower, LinesTouch, NodeOnLine, Touching, OutOfOrder}
-use Rattle.verdict.specs.Verdict.{Verdict, FirstOf, conditions}
+use Rattle.verdict.specs.Conditions.{SamePoint, NotLower, Touching, OutOfOrder}
+use Rattle.verdict.specs.Verdict.{FirstOf, conditions}
 use Rattle.width.specs.Allowed.{floorLog2, allowedWidth}
 use Rattle.width.proofs.FloorLog2.{floor-bounds, allowed-some}
 use Rattle.guarantee.specs.Demand.{Kept}
@@ -54,10 +53,19 @@ module _ (t p : List ℕ) (ok : fault t ≡ 0) (z : Checked (tree t) (pointOf p)
 -- ---- the drawing's points are read back
 
 agrees : (t p : List ℕ) → fault t ≡ 0 → 2 * records t ≤ length p → Agrees (pointOf (store (draw (tree t)) p)) (draw (tree t))
-agrees t p ok long = ?agrees
+agrees t p ok long = store-point L p once room
+  where
+    L : Layout
+    L = draw (tree t)
 
-same-length : (L : Layout) (p : List ℕ) → length (store L p) ≡ length p
-same-length L p = ?same-length
+    same-records : (k : ℕ) → times k L ≡ count k (nodes (tree t))
+    same-records k = ap (λ (T : Tree). count k (nodes T)) (promise (tree t) .same)
+
+    once : (k : ℕ) → times k L ≤ 1
+    once k = omega (arith, same-records k, repeats-count (nodes (tree t)) .0 (nodes-distinct t ok) k)
+
+    room : (k : ℕ) → 1 ≤ times k L → 2 * k + 1 < length p
+    room k h = omega (arith, long, chain-within t ok k (nodes-chain t ok k .0 (member-count k (nodes (tree t)) .1 (omega (arith, h, same-records k)))) .1)
 
 -- ---- width and height
 
@@ -96,4 +104,4 @@ kept t p e = record {
     long = refusal-none t (length p) .0 none-refused .1
 
     length-after : length (placedIn t p) ≡ length p
-    length-after = ap length (a .after) ∙ same-length (draw (tree t)) p
+    length-after = ap length (a .after) ∙ store-length (draw (tree t)) p

@@ -1,11 +1,10 @@
 -- Chained records are the nodes of an accepted table's tree (`chained-node`), and lines its edges (`line-child`). Rests on the laws of an accepted table.
-use mathlib.Core.Path.{_≡_, refl, sym, subst}
-use mathlib.Core.Logic.{_⊎_, inl, inr, _≢_}
+use mathlib.Core.Path.{_≡_, sym, subst}
+use mathlib.Core.Logic.{_⊎_, inl, inr}
 use mathlib.Core.List.{List}
 use Prim.Native.Nat.{ℕ}
 use lib.Dec.{T}
-use Rattle.table.specs.Lists.{member}
-use Rattle.table.specs.Table.{Side, left, right, linkOf, leftOf, rightOf, rootOf, chain}
+use Rattle.table.specs.Table.{Side, left, right, linkOf, leftOf, rightOf}
 use Rattle.table.specs.Tree.{Tree, node, treeAt, tree}
 use Rattle.table.specs.Refusal.{fault}
 use Rattle.table.proofs.Accepted.{tree-unfolds, links-chained, down}
