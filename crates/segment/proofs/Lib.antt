@@ -1,0 +1,6 @@
+-- The laws of segments. None is assumed.
+pub mod Decides
+pub mod Difference
+pub mod CrossProduct
+pub mod SharedPoint
+pub mod Clashing
