@@ -1,0 +1,2 @@
+-- The laws of the verdict, and the proofs of the functions. None is assumed.
+pub mod Unique
