@@ -11,9 +11,8 @@ use lib.ListN.{length}
 use borrow.Author.Tests.{eqb-true, eqb-false}
 use Rattle.segment.specs.declared.Point.{Point}
 use Rattle.segment.specs.Segment.{cross, Clash}
-use Rattle.segment.specs.Test.{same, clashes}
 use Rattle.segment.proofs.Decides.{Decides, le-decides, eq-decides, and-decides, or-decides, guard-decides, same-meaning}
-use Rattle.segment.proofs.Clashing.{point, clashes↔clash}
+use Rattle.segment.proofs.Clashing.{same, same-decides, clashes, clashes↔clash}
 use Rattle.table.specs.Lists.{any, member}
 use Rattle.table.specs.Table.{Side, left, right, leftOf, rightOf, linkOf, chain}
 use Rattle.table.specs.Refusal.{fault, refusal}
@@ -63,10 +62,6 @@ itself b = record { is = (λ z. z, λ z. z) }
 present-decides : (c : ℕ) → Decides (present c) (c ≢ 0)
 unfolding present
 present-decides c = not-decides (eq-decides c 0)
-
-same-decides : (P Q : Point) → Decides (same P Q) (P ≡ Q)
-unfolding same
-same-decides P Q = same-meaning (λ z. point (z .0) (z .1), λ e. (ap (λ (X : Point). X .column) e, ap (λ (X : Point). X .row) e)) (and-decides (eq-decides _ _) (eq-decides _ _))
 
 some : (f : ℕ → Bool) (ks : List ℕ) → T (any f ks) ↔ ((k : ℕ) × T (member k ks) × T (f k))
 unfolding any
