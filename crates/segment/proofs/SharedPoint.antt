@@ -1,17 +1,24 @@
 -- Two segments share a point exactly where the test `meets` says so, for all natural coordinates. Rests on the laws of the cross product.
 use mathlib.Core.Path.{_≡_, refl, ap}
 use mathlib.Core.Logic.{_↔_, _≢_, _⊎_, inl, inr}
+use mathlib.Core.Bool.{Bool, _&&_, _||_}
 use Prim.Native.Nat.{ℕ, _+_, _*_, _≤_, _<_, min, max}
 use native.Mathlib.Nat.{mul-le-mul-left, le-of-mul-le-mul-left, le-dest, min-le-left, min-le-right, le-max-left, le-max-right}
 use native.Mathlib.Decide.{decLe, decLt, ℕ-discrete}
 use native.Mathlib.Omega.{arith}
-use lib.Dec.{T}
+use lib.Dec.{T, leb}
+use lib.IntN.{ℤ, pos}
+use lib.Signed.{leZ}
 use Rattle.segment.specs.declared.Point.{Point}
-use Rattle.segment.specs.Segment.{On, Share, Lies}
-use Rattle.segment.specs.Test.{overlap, astride, meets}
+use Rattle.segment.specs.Segment.{On, Share, Lies, cross}
+use Rattle.segment.specs.Test.{overlap, spans, astride}
 use Rattle.segment.proofs.Decides.{Decides, le-decides, and-decides, or-decides, same-meaning}
 use Rattle.segment.proofs.Difference.{diff-nonneg, diff-nonpos}
 use Rattle.segment.proofs.CrossProduct.{plus, minus, cross-diff, Weights, weights, on, on-turn, linear, cramer-column, cramer-row}
+
+-- the test of shared points
+unfoldable pub meets : Point → Point → Point → Point → Bool
+meets P Q R S = overlap (P .row) (Q .row) (R .row) (S .row) && (overlap (P .column) (Q .column) (R .column) (S .column) && (astride P Q R S && astride R S P Q))
 
 -- ---- the test over ℕ
 
@@ -19,7 +26,7 @@ abbrev pub Overlap : ℕ → ℕ → ℕ → ℕ → Type 0
 Overlap a b x y = (min a b ≤ max x y) × (min x y ≤ max a b)
 
 abbrev pub Astride : Point → Point → Point → Point → Type 0
-Astride A B X Y = ((plus A B X ≤ minus A B X) × (minus A B Y ≤ plus A B Y)) ⊎ ((minus A B X ≤ plus A B X) × (plus A B Y ≤ minus A B Y))
+Astride A B X Y = ((plus A B X ≤ minus A B X) × (minus A B Y ≤ plus A B Y)) ⊎ ((plus A B Y ≤ minus A B Y) × (minus A B X ≤ plus A B X))
 
 abbrev pub Meets : Point → Point → Point → Point → Type 0
 Meets P Q R S = Overlap (P .row) (Q .row) (R .row) (S .row) × (Overlap (P .column) (Q .column) (R .column) (S .column) × (Astride P Q R S × Astride R S P Q))
@@ -29,15 +36,33 @@ unfolding overlap
 overlap-decides a b x y = and-decides (le-decides _ _) (le-decides _ _)
 
 astride-decides : (A B X Y : Point) → Decides (astride A B X Y) (Astride A B X Y)
-unfolding astride
+unfolding astride spans
 astride-decides A B X Y =
     let x = cross-diff A B X in
     let y = cross-diff A B Y in
-    or-decides (and-decides (diff-nonpos x) (diff-nonneg y)) (and-decides (diff-nonneg x) (diff-nonpos y))
+    or-decides (and-decides (diff-nonpos x) (diff-nonneg y)) (and-decides (diff-nonpos y) (diff-nonneg x))
 
 meets-decides : (P Q R S : Point) → Decides (meets P Q R S) (Meets P Q R S)
 unfolding meets
 meets-decides P Q R S = and-decides (overlap-decides _ _ _ _) (and-decides (overlap-decides _ _ _ _) (and-decides (astride-decides _ _ _ _) (astride-decides _ _ _ _)))
+
+-- the tests from the answers of calls
+pub overlap-by : {l h l′ h′ : ℕ} (a b x y : ℕ) → l ≡ min a b → h ≡ max x y → l′ ≡ min x y → h′ ≡ max a b → (leb l h && leb l′ h′) ≡ overlap a b x y
+unfolding overlap
+overlap-by a b x y e f g i = cc
+
+pub spans-by : {d′ e′ : ℤ} (d e : ℤ) → d′ ≡ d → e′ ≡ e → (leZ d′ (pos 0) && leZ (pos 0) e′) ≡ spans d e
+unfolding spans
+spans-by d e x y = cc
+
+pub astride-by : {d e : ℤ} {s t : Bool} (A B X Y : Point) → d ≡ cross A B X → e ≡ cross A B Y → s ≡ spans d e → t ≡ spans e d → (s || t) ≡ astride A B X Y
+unfolding astride
+astride-by A B X Y d e s t = cc
+
+pub meets-by : {o n a b : Bool} (P Q R S : Point) → o ≡ overlap (P .row) (Q .row) (R .row) (S .row) → n ≡ overlap (P .column) (Q .column) (R .column) (S .column) →
+    a ≡ astride P Q R S → b ≡ astride R S P Q → (o && (n && (a && b))) ≡ meets P Q R S
+unfolding meets
+meets-by P Q R S o n a b = cc
 
 -- ---- symmetries of the meaning
 
@@ -76,13 +101,13 @@ mean a b x y u v t w q m h k one e f = le-of-mul-le-mul-left {k = q} (omega (
 balance : (t w f g b d : ℕ) → 1 ≤ t + w → t * f + w * g ≡ t * b + w * d → b < f → d < g → ⊥
 balance t w f g b d one e h k = omega (arith, mul-le-mul-left t h, mul-le-mul-left w k)
 
-opposed : (t w f g b d : ℕ) → 1 ≤ t + w → t * f + w * g ≡ t * b + w * d → ((f ≤ b) × (d ≤ g)) ⊎ ((b ≤ f) × (g ≤ d))
+opposed : (t w f g b d : ℕ) → 1 ≤ t + w → t * f + w * g ≡ t * b + w * d → ((f ≤ b) × (d ≤ g)) ⊎ ((g ≤ d) × (b ≤ f))
 opposed t w f g b d one e = go (decLe f b) (decLe d g)
   where
-    go : Dec (f ≤ b) → Dec (d ≤ g) → ((f ≤ b) × (d ≤ g)) ⊎ ((b ≤ f) × (g ≤ d))
+    go : Dec (f ≤ b) → Dec (d ≤ g) → ((f ≤ b) × (d ≤ g)) ⊎ ((g ≤ d) × (b ≤ f))
     go (yes h) (yes k) = inl (h, k)
-    go (no h) k = inr (omega arith, omega (arith, balance t w f g b d one e (omega arith)))
-    go (yes h) (no k) = inr (omega (arith, balance w t d b g f (omega arith) (omega arith) (omega arith)), omega arith)
+    go (no h) k = inr (omega (arith, balance t w f g b d one e (omega arith)), omega arith)
+    go (yes h) (no k) = inr (omega arith, omega (arith, balance w t d b g f (omega arith) (omega arith) (omega arith)))
 
 pub share→meets : {P Q R S : Point} → Share P Q R S → Meets P Q R S
 share→meets {P} {Q} {R} {S} h = let a = weights (h .on-PQ) in
@@ -211,8 +236,8 @@ meets→share P Q R S (n, (o, (a, b))) = go a b
 
     go : Astride P Q R S → Astride R S P Q → Share P Q R S
     go (inl x) (inl y) = in-line P Q R S (omega arith) (omega arith) (omega arith) (omega arith) n o
-    go (inl x) (inr y) = less P Q R S n o (x .0) (x .1) (y .0) (y .1)
-    go (inr x) (inl y) = share-turn (less P Q S R (omega arith) (omega arith) (x .1) (x .0) (omega arith) (omega arith))
+    go (inl x) (inr y) = less P Q R S n o (x .0) (x .1) (y .1) (y .0)
+    go (inr x) (inl y) = share-turn (less P Q S R (omega arith) (omega arith) (x .0) (x .1) (omega arith) (omega arith))
     go (inr x) (inr y) = in-line P Q R S (omega arith) (omega arith) (omega arith) (omega arith) n o
 
 -- ---- the theorem
