@@ -1,7 +1,7 @@
 -- The starred sheets: `starred`, that the definitions give the results of every case, by one test that is computed over the table of cases.
 use mathlib.Core.Path.{_≡_, refl, ap₂, subst}
 use mathlib.Core.Bool.{Bool, true, false, _&&_}
-use mathlib.Core.List.{List, [], _∷_, _++_, map}
+use mathlib.Core.List.{List, [], _∷_}
 use Prim.Native.Nat.{ℕ}
 use lib.Dec.{T, eqb, eqb→eq}
 use Rattle.table.specs.Lists.{any, member, repeats, count}
@@ -13,6 +13,12 @@ use Rattle.layout.specs.Spine.{spine, opposite, seen, runRole, roleAfter, handA
 use Rattle.layout.specs.Drawing.{hang, widest, join, place, steps, drawing, draw}
 use Rattle.drawing.specs.declared.Drawn.{Drawn}
 use Rattle.drawing.specs.Answer.{store, planOf, drawnOf, placedIn}
+use Rattle.segment.specs.Segment.{cross}
+use Rattle.segment.specs.Test.{overlap, spans, astride}
+use Rattle.segment.proofs.SharedPoint.{meets}
+use Rattle.segment.proofs.Clashing.{same as samePlace, along, clashes}
+use Rattle.verdict.specs.Verdict.{Verdict}
+use Rattle.verdict.proofs.Decide.{present, someLine, samePoint, notLower, linesClash, outOfOrder, verdictOf, decided}
 use Rattle.width.specs.Allowed.{greatest, floorLog2, allowedWidth}
 use Rattle.sheets.specs.Cases.{Case, draws, checks, allows, accepted, Right, cases}
 
@@ -50,13 +56,13 @@ listed→eq d n w h e =
 
 test : Case → Bool
 test (draws t p n w h q) = same (listed (drawnOf t p)) (0 ∷ n ∷ w ∷ h ∷ []) && same (placedIn t p) q
-test (checks t p v) = true
+test (checks t p v) = eqb (verdictOf t p) v
 test (allows n w) = eqb (allowedWidth n) w
 
 right : (c : Case) → T (test c) → Right c
 unfolding test
 right (draws t p n w h q) ok = let z = both (same (listed (drawnOf t p)) (0 ∷ n ∷ w ∷ h ∷ [])) (same (placedIn t p) q) ok in (listed→eq _ _ _ _ (same→eq _ _ (z .0)), same→eq _ _ (z .1))
-right (checks t p v) ok = ?
+right (checks t p v) ok = subst (Verdict t p) (eqb→eq _ _ ok) (decided t p)
 right (allows n w) ok = eqb→eq _ _ ok
 
 -- Every case of a list.
@@ -74,5 +80,5 @@ every [] ok = tt
 every (c ∷ cs) ok = let z = both (test c) (tests cs) ok in (right c (z .0), every cs (z .1))
 
 pub starred : All Right cases
-unfolding any member repeats count word follow chain size nodes descend badLength badHead beyond badChain stray badLinks isEmpty links badTree shortPlacements fault refusal width height shift flip mirror spine opposite seen runRole roleAfter handAfter rolesAfter roles hang widest join place steps drawing draw store planOf drawnOf placedIn greatest floorLog2 allowedWidth same listed test tests
+unfolding any member repeats count word follow chain size nodes descend badLength badHead beyond badChain stray badLinks isEmpty links badTree shortPlacements fault refusal width height shift flip mirror spine opposite seen runRole roleAfter handAfter rolesAfter roles hang widest join place steps drawing draw store planOf drawnOf placedIn cross overlap spans astride meets samePlace along clashes present someLine samePoint notLower linesClash outOfOrder verdictOf greatest floorLog2 allowedWidth same listed test tests
 starred = every cases tt
