@@ -10,15 +10,12 @@ use mir.Val.{hbits, SFits, toZ, ofZ}
 use mir.ValLaws.{toZ-ofZ, toZ-pos}
 use Rattle.segment.specs.declared.Point.{Point}
 use Rattle.segment.specs.Segment.{cross}
-use Rattle.segment.proofs.Difference.{Is, Diff, diff-pos, diff-mul}
+use Rattle.segment.proofs.Difference.{Diff, diff-pos, diff-mul}
 use Rattle.segment.proofs.CrossProduct.{cross-diff}
 
-fits-by : (w : Width) (z : ℤ) (a b : ℕ) → Is z a b → a < 2 ^ hbits w → b < 2 ^ hbits w → SFits w z
-fits-by w (pos n) a b h k l = record { sfits = omega arith }
-fits-by w (negsuc n) a b h k l = record { sfits = omega arith }
-
-fits : {w : Width} {z : ℤ} {a b : ℕ} → Diff z a b → a < 2 ^ hbits w → b < 2 ^ hbits w → SFits w z
-fits {w} {z} {a} {b} h k l = fits-by w z a b (h .is) k l
+fits : {w : Width} (z : ℤ) {a b : ℕ} → Diff z a b → a < 2 ^ hbits w → b < 2 ^ hbits w → SFits w z
+fits (pos n) h k l = omega arith
+fits (negsuc n) h k l = omega arith
 
 -- what a call gave, as it is read back from its bits
 pub given : (w : Width) {z x : ℤ} → z ≡ x → mag z < 2 ^ hbits w → toZ w (ofZ w z) ≡ x
@@ -29,7 +26,7 @@ plain : (w : Width) (a b : ℕ) → 65536 ≤ 2 ^ hbits w → a < 65536 → b < 
 plain w a b room k l = ap₂ _-ℤ_ (toZ-pos w a (omega arith)) (toZ-pos w b (omega arith))
 
 pub fits-minus : {w : Width} {a b : ℕ} → 65536 ≤ 2 ^ hbits w → a < 65536 → b < 65536 → SFits w (toZ w a -ℤ toZ w b)
-fits-minus {w} {a} {b} room k l = rw (plain w a b room k l) (fits (diff-pos a b) (omega arith) (omega arith))
+fits-minus {w} {a} {b} room k l = rw (plain w a b room k l) (fits _ (diff-pos a b) (omega arith) (omega arith))
 
 pub read-minus : {w : Width} {a b : ℕ} → SFits w (toZ w a -ℤ toZ w b) → 65536 ≤ 2 ^ hbits w → a < 65536 → b < 65536 → toZ w (ofZ w (toZ w a -ℤ toZ w b)) ≡ pos a -ℤ pos b
 read-minus {w} {a} {b} f room k l = toZ-ofZ w _ f ∙ plain w a b room k l
@@ -45,7 +42,7 @@ pub record Grid (P : Point) : Type 0 where
 module _ (w : Width) (room : 12884508675 < 2 ^ hbits w) where
   pub fits-product : {u v : ℤ} {a b c d : ℕ} → u ≡ pos a -ℤ pos b → v ≡ pos c -ℤ pos d → a < 65536 → b < 65536 → c < 65536 → d < 65536 → SFits w (u *ℤ v)
   fits-product {a = a} {b = b} {c = c} {d = d} e f i j k l =
-      rw (e, f) (fits (diff-mul (diff-pos a b) (diff-pos c d)) (omega (arith, below i k, below j l)) (omega (arith, below i l, below j k)))
+      rw (e, f) (fits _ (diff-mul _ _ (diff-pos a b) (diff-pos c d)) (omega (arith, below i k, below j l)) (omega (arith, below i l, below j k)))
 
   -- the cross product as the machine computes it, from the four differences
   module _ {P A B : Point} (p : Grid P) (a : Grid A) (b : Grid B) {u v s t : ℤ} (eu : u ≡ pos (A .column) -ℤ pos (P .column)) (ev : v ≡ pos (B .row) -ℤ pos (P .row))
@@ -56,7 +53,7 @@ module _ (w : Width) (room : 12884508675 < 2 ^ hbits w) where
         (toZ-ofZ w _ (fits-product es et (a .row<) (p .row<) (b .column<) (p .column<)) ∙ ap₂ _*ℤ_ es et)
 
     pub fits-cross : SFits w (toZ w (ofZ w (u *ℤ v)) -ℤ toZ w (ofZ w (s *ℤ t)))
-    fits-cross = rw whole (fits (cross-diff P A B) (omega (arith, below (p .column<) (a .row<), below (a .column<) (b .row<), below (b .column<) (p .row<)))
+    fits-cross = rw whole (fits _ (cross-diff P A B) (omega (arith, below (p .column<) (a .row<), below (a .column<) (b .row<), below (b .column<) (p .row<)))
         (omega (arith, below (p .row<) (a .column<), below (a .row<) (b .column<), below (b .row<) (p .column<))))
 
     pub read-cross : toZ w (ofZ w (toZ w (ofZ w (u *ℤ v)) -ℤ toZ w (ofZ w (s *ℤ t)))) ≡ cross P A B

@@ -1,20 +1,18 @@
 -- Two segments share a point exactly where the test `meets` says so, for all natural coordinates. Rests on the laws of the cross product.
 use mathlib.Core.Path.{_≡_, refl, ap}
 use mathlib.Core.Logic.{_↔_, _≢_, _⊎_, inl, inr}
-use mathlib.Core.Bool.{Bool, _&&_, _||_}
+use mathlib.Core.Bool.{Bool, _&&_}
 use Prim.Native.Nat.{ℕ, _+_, _*_, _≤_, _<_, min, max}
 use native.Mathlib.Nat.{mul-le-mul-left, le-of-mul-le-mul-left, le-dest, min-le-left, min-le-right, le-max-left, le-max-right}
 use native.Mathlib.Decide.{decLe, decLt, ℕ-discrete}
 use native.Mathlib.Omega.{arith}
-use lib.Dec.{T, leb}
-use lib.IntN.{ℤ, pos}
-use lib.Signed.{leZ}
+use lib.Dec.{T}
 use Rattle.segment.specs.declared.Point.{Point}
-use Rattle.segment.specs.Segment.{On, Share, Lies, cross}
+use Rattle.segment.specs.Segment.{On, Share, Lies}
 use Rattle.segment.specs.Test.{overlap, spans, astride}
 use Rattle.segment.proofs.Decides.{Decides, le-decides, and-decides, or-decides, same-meaning}
 use Rattle.segment.proofs.Difference.{diff-nonneg, diff-nonpos}
-use Rattle.segment.proofs.CrossProduct.{plus, minus, cross-diff, Weights, weights, on, on-turn, linear, cramer-column, cramer-row}
+use Rattle.segment.proofs.CrossProduct.{plus, minus, cross-diff, weights, on, on-turn, linear, cramer-column, cramer-row}
 
 -- the test of shared points
 unfoldable pub meets : Point → Point → Point → Point → Bool
@@ -40,29 +38,11 @@ unfolding astride spans
 astride-decides A B X Y =
     let x = cross-diff A B X in
     let y = cross-diff A B Y in
-    or-decides (and-decides (diff-nonpos x) (diff-nonneg y)) (and-decides (diff-nonpos y) (diff-nonneg x))
+    or-decides (and-decides (diff-nonpos _ x) (diff-nonneg _ y)) (and-decides (diff-nonpos _ y) (diff-nonneg _ x))
 
 meets-decides : (P Q R S : Point) → Decides (meets P Q R S) (Meets P Q R S)
 unfolding meets
 meets-decides P Q R S = and-decides (overlap-decides _ _ _ _) (and-decides (overlap-decides _ _ _ _) (and-decides (astride-decides _ _ _ _) (astride-decides _ _ _ _)))
-
--- the tests from the answers of calls
-pub overlap-by : {l h l′ h′ : ℕ} (a b x y : ℕ) → l ≡ min a b → h ≡ max x y → l′ ≡ min x y → h′ ≡ max a b → (leb l h && leb l′ h′) ≡ overlap a b x y
-unfolding overlap
-overlap-by a b x y e f g i = cc
-
-pub spans-by : {d′ e′ : ℤ} (d e : ℤ) → d′ ≡ d → e′ ≡ e → (leZ d′ (pos 0) && leZ (pos 0) e′) ≡ spans d e
-unfolding spans
-spans-by d e x y = cc
-
-pub astride-by : {d e : ℤ} {s t : Bool} (A B X Y : Point) → d ≡ cross A B X → e ≡ cross A B Y → s ≡ spans d e → t ≡ spans e d → (s || t) ≡ astride A B X Y
-unfolding astride
-astride-by A B X Y d e s t = cc
-
-pub meets-by : {o n a b : Bool} (P Q R S : Point) → o ≡ overlap (P .row) (Q .row) (R .row) (S .row) → n ≡ overlap (P .column) (Q .column) (R .column) (S .column) →
-    a ≡ astride P Q R S → b ≡ astride R S P Q → (o && (n && (a && b))) ≡ meets P Q R S
-unfolding meets
-meets-by P Q R S o n a b = cc
 
 -- ---- symmetries of the meaning
 

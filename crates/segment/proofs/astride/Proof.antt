@@ -1,9 +1,8 @@
 -- `segment::astride` meets its contract.
 use borrow.Author.Needs.{needs}
 use mathlib.Core.Path.{refl, _∙_}
-use Rattle.segment.proofs.Decides.{or-skip, or-stop}
 use Rattle.segment.proofs.Range.{given}
-use Rattle.segment.proofs.SharedPoint.{astride-by}
+use Rattle.segment.proofs.Answers.{or-skip, or-stop, astride-by}
 use Rattle.segment.proofs.astride.Statement.{statement}
 use Rattle.segment.proofs.astride.Tie as tie
 
