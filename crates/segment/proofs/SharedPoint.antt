@@ -81,6 +81,7 @@ mean a b x y u v t w q m h k one e f = le-of-mul-le-mul-left {k = q} (omega (
 balance : (t w f g b d : ℕ) → 1 ≤ t + w → t * f + w * g ≡ t * b + w * d → b < f → d < g → ⊥
 balance t w f g b d one e h k = omega (arith, mul-le-mul-left t h, mul-le-mul-left w k)
 
+-- so where they balance f - b and g - d, the two are not of one sign
 opposed : (t w f g b d : ℕ) → 1 ≤ t + w → t * f + w * g ≡ t * b + w * d → ((f ≤ b) × (d ≤ g)) ⊎ ((g ≤ d) × (b ≤ f))
 opposed t w f g b d one e = go (decLe f b) (decLe d g)
   where
@@ -152,6 +153,7 @@ touch A B X Y l h k z = go (le-dest h) (le-dest k)
       on-RS = at-start X Y (u + v);
     }
 
+-- whichever of A and B has the lesser column
 touch-either : (A B X Y : Point) → A .column ≢ B .column → min (A .column) (B .column) ≤ X .column → X .column ≤ max (A .column) (B .column) → plus A B X ≡ minus A B X → Share A B X Y
 touch-either A B X Y n h k z = go (decLe (A .column) (B .column))
   where
@@ -159,6 +161,7 @@ touch-either A B X Y n h k z = go (decLe (A .column) (B .column))
     go (yes l) = touch A B X Y (omega arith) (omega arith) (omega arith) z
     go (no l) = share-exchange (share-turn (share-exchange (touch B A X Y (omega arith) (omega arith) (omega arith) (omega (arith, z)))))
 
+-- all four are in line, the columns overlap, and a segment has two columns
 record Line (P Q R S : Point) : Type 0 where
   z₁ : plus P Q R ≡ minus P Q R
   z₂ : plus P Q S ≡ minus P Q S
@@ -184,6 +187,7 @@ wide-line P Q R S l = go (decLe (min (P .column) (Q .column)) (min (R .column) (
     go (yes h) = first P Q R S l h
     go (no h) = share-exchange (first R S P Q (record { z₁ = l .z₃; z₂ = l .z₄; z₃ = l .z₁; z₄ = l .z₂; low = l .high; high = l .low; wide = omega (arith, l .wide) }) (omega arith))
 
+-- by columns, else by rows; else all four are one point
 in-line : (P Q R S : Point) → plus P Q R ≡ minus P Q R → plus P Q S ≡ minus P Q S → plus R S P ≡ minus R S P → plus R S Q ≡ minus R S Q →
     Overlap (P .row) (Q .row) (R .row) (S .row) → Overlap (P .column) (Q .column) (R .column) (S .column) → Share P Q R S
 unfolding flip
