@@ -1,4 +1,5 @@
--- The laws of placing.
+-- Laws of the drawer's answer, and of placing.
+pub mod Answered
 pub mod Store
 pub mod Shapes
 pub mod Columns

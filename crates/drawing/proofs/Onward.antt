@@ -15,12 +15,11 @@ use Rattle.layout.specs.Layout.{Layout, blank}
 use Rattle.layout.specs.Spine.{SpineNode, hangs, Role, knee, ordinary, switch, opposite, seen, runRole, roleAfter, handAfter}
 use Rattle.layout.specs.Drawing.{Rest, join}
 use Rattle.layout.specs.Held.{inwards, hungOn, heightOn, widthOn, spineOn, roleNext, far, lay}
-use Rattle.layout.proofs.Rows.{shape}
 use Rattle.measure.specs.Prepared.{codeOf, Prepared, Along, no-spine, onward}
 use Rattle.drawing.specs.Answer.{store}
 use Rattle.drawing.specs.Placing.{isSwitch, point, Columns, deepest, Room, kept, finish, finished, Ready}
 use Rattle.drawing.proofs.Store.{Apart, store-comm, store-join}
-use Rattle.drawing.proofs.Shapes.{treeOf, hung-none, height-none, width-none, shape-hung, shape-lay}
+use Rattle.drawing.proofs.Shapes.{Disjoint, treeOf, hung-none, height-none, width-none, shape-hung, shape-lay}
 use Rattle.drawing.proofs.Columns.{columns-less, columns-over, over-back}
 
 -- ---- what is pending
@@ -62,10 +61,10 @@ finished-run W a e o H r Q ls p h = ap (λ (T : Tree). finish a e T (lay a e (in
 
 -- ---- what is left gives the same
 
-apart-laid : (a b : Side) (e e′ f t : ℕ) (o : Role) (H r p : ℕ) (S : Tree) (ls : List SpineNode) → Apart S (treeOf ls) → Apart (shape (hungOn a e t S)) (shape (lay b e′ f o H r p ls .drawn))
+apart-laid : (a b : Side) (e e′ f t : ℕ) (o : Role) (H r p : ℕ) (S : Tree) (ls : List SpineNode) → Disjoint S (treeOf ls) → Apart (hungOn a e t S) (lay b e′ f o H r p ls .drawn)
 apart-laid a b e e′ f t o H r p S ls h = rw (shape-hung a e t S, shape-lay b e′ f o H r p ls) h
 
-module _ (W : ℕ) (a : Side) (e H r k : ℕ) (s : Side) (S Q : Tree) (ls : List SpineNode) (p : List ℕ) (apart : Apart S (treeOf ls)) where
+module _ (W : ℕ) (a : Side) (e H r k : ℕ) (s : Side) (S Q : Tree) (ls : List SpineNode) (p : List ℕ) (apart : Disjoint S (treeOf ls)) where
   abbrev f : ℕ
   f = inwards a e (W + 2)
 
@@ -100,7 +99,7 @@ module _ (W : ℕ) (a : Side) (e H r k : ℕ) (s : Side) (S Q : Tree) (ls : List
       laid : lay a e f knee H r (heightOn a Q) (hangs k s S ∷ ls) .drawn ≡ join k (at e r) s (hungOn a (inwards a e 1) (after-near .under) S) (after-near .drawn)
       laid = rw (h, lay)
 
-      sides : Apart (shape (hungOn a (inwards a e 1) (after-near .under) S)) (shape (after-near .drawn))
+      sides : Apart (hungOn a (inwards a e 1) (after-near .under) S) (after-near .drawn)
       sides = apart-laid a a _ e _ _ _ _ _ _ S ls apart
 
   pub ordinary-on : finished W a e (roleNext a ordinary ls) (r + heightOn a S) (r + max 1 (heightOn a S)) Q ls (store (hungOn a (inwards a e 2) (r + 1) S) (point k (inwards a e 1) r p))
@@ -114,7 +113,7 @@ module _ (W : ℕ) (a : Side) (e H r k : ℕ) (s : Side) (S Q : Tree) (ls : List
   abbrev drawn-both : List ℕ
   drawn-both = store (hungOn a (inwards a e 1) (r + heightOn a S + 1) Q) (store (hungOn a (inwards a e 1) (r + 1) S) (point k (inwards a e 1) r p))
 
-  pub switch-over : Columns a e (W + 3) → Apart Q (treeOf ls) →
+  pub switch-over : Columns a e (W + 3) → Disjoint Q (treeOf ls) →
       finished W (opposite a) f (roleNext (opposite a) switch ls) (r + heightOn a S + heightOn a Q) (r + 1) none ls drawn-both ≡ finished W a e switch H r Q (hangs k s S ∷ ls) p
   unfolding lay finish finished kept
   switch-over c apart′ = finished-none W (opposite a) f _ _ _ ls _ ∙ (ap (λ (g : ℕ). store (after-switch g .drawn) drawn-both) (over-back a e (W + 2) (columns-less a e _ _ (omega arith) c))

@@ -7,13 +7,23 @@ use native.Mathlib.Omega.{arith}
 use lib.Dec.{leb}
 use Rattle.segment.specs.declared.Point.{Point}
 use Rattle.table.specs.Table.{Side, left, right}
-use Rattle.table.specs.Tree.{Tree, none, node, size}
+use Rattle.table.specs.Lists.{count}
+use Rattle.table.specs.Tree.{Tree, none, node, size, nodes}
+use Rattle.table.proofs.Lists.{same, count-append}
 use Rattle.layout.specs.Layout.{Layout, blank, placed, width, height, mirror}
 use Rattle.layout.specs.Spine.{SpineNode, hangs, Role, knee, ordinary, switch}
 use Rattle.layout.specs.Drawing.{join, draw, drawing}
 use Rattle.layout.specs.Held.{facing, put, hungOn, heightOn, widthOn, spineOn, far, lay}
 use Rattle.layout.proofs.Rows.{shape, mirror-twice, size-mirror}
 use Rattle.layout.proofs.Theorem.{promise}
+
+-- No record is in both trees.
+abbrev pub Disjoint : Tree → Tree → Type 0
+Disjoint A B = (k : ℕ) → count k (nodes A) + count k (nodes B) ≤ 1
+
+pub count-node : (i k : ℕ) (a b : Tree) → count i (nodes (node k a b)) ≡ same i k + (count i (nodes a) + count i (nodes b))
+unfolding nodes count
+count-node i k a b = omega (arith, count-append i (nodes a) (nodes b))
 
 -- The tree of a spine node k with S hung on the side s and R on the other.
 unfoldable pub plug : ℕ → Side → Tree → Tree → Tree

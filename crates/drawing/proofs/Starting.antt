@@ -26,8 +26,7 @@ use Rattle.measure.specs.Prepared.{Prepared, Along, no-spine, a-spine}
 use Rattle.drawing.specs.Answer.{store}
 use Rattle.drawing.specs.declared.place.Walk.{Walk}
 use Rattle.drawing.specs.Placing.{Columns, Hanging, Hung, deepest, Room, kept, finish, finished, Ready, handOf, spineFrom, Going, left-over, Stepped, bottom, remaining}
-use Rattle.drawing.proofs.Store.{count-node}
-use Rattle.drawing.proofs.Shapes.{hung-none, height-none, width-none, width-node}
+use Rattle.drawing.proofs.Shapes.{count-node, hung-none, height-none, width-none, width-node}
 use Rattle.drawing.proofs.Columns.{columns-less, columns-in}
 use Rattle.drawing.proofs.Onward.{finished-none}
 use Rattle.drawing.proofs.Needed.{hung-law, depth-law, room-law}

@@ -1,62 +1,122 @@
--- Storing a layout in placements: what stands where afterwards, and that layouts of different records are stored in any order. Rests on the laws of lists.
-use mathlib.Core.Path.{_≡_, refl, ap, sym, _∙_}
-use mathlib.Core.Logic.{_≢_, inl, inr}
+-- Laws of `store`: the length is kept (`store-length`), every entry but those of the layout's records is kept (`store-kept`), and the entries of a node of a
+-- layout with distinct records are its point (`store-point`); layouts of different records are stored in any order (`store-comm`).
+use mathlib.Core.Path.{_≡_, refl, ap, ap₂, sym, _∙_}
+use mathlib.Core.Logic.{_≢_}
 use mathlib.Core.List.{List}
-use Prim.Native.Nat.{ℕ, _+_, _*_, _≤_}
+use Prim.Native.Nat.{ℕ, _+_, _*_, _≤_, _<_}
 use native.Mathlib.Omega.{arith}
 use lib.ListN.{length, getD, set, length-set}
-use lib.Seq.{set-comm, getD-set-other}
+use lib.Seq.{getD-set-same, getD-set-other, set-comm}
 use Rattle.segment.specs.declared.Point.{Point}
+use Rattle.segment.specs.Segment.{at}
 use Rattle.table.specs.Lists.{count}
 use Rattle.table.specs.Table.{Side, left, right}
-use Rattle.table.specs.Tree.{Tree, node, nodes}
+use Rattle.table.specs.Tree.{nodes}
 use Rattle.table.proofs.Lists.{same, same-one, count-append}
 use Rattle.layout.specs.Layout.{Layout, blank, placed}
 use Rattle.layout.specs.Drawing.{join}
+use Rattle.layout.proofs.Clean.{Node, root, left-node, right-node, point, recordOf}
 use Rattle.layout.proofs.Rows.{shape}
 use Rattle.drawing.specs.Answer.{store}
-use Rattle.drawing.specs.Placing.{point}
 
--- No record is in both trees, nor twice in one.
-abbrev pub Apart : Tree → Tree → Type 0
-Apart A B = (k : ℕ) → count k (nodes A) + count k (nodes B) ≤ 1
+-- How often a layout has the record k.
+abbrev pub times : ℕ → Layout → ℕ
+times k L = count k (nodes (shape L))
 
-pub count-node : (i k : ℕ) (a b : Tree) → count i (nodes (node k a b)) ≡ same i k + (count i (nodes a) + count i (nodes b))
-unfolding nodes count
-count-node i k a b = omega (arith, count-append i (nodes a) (nodes b))
+-- The point at a record's entries.
+abbrev pub pointAt : List ℕ → ℕ → Point
+pointAt p k = at (getD p (2 * k) 0) (getD p (2 * k + 1) 0)
 
--- ---- points of different records
+-- A point stored at a record's entries.
+abbrev pub pair : List ℕ → ℕ → Point → List ℕ
+pair p k P = set (set p (2 * k) (P .column)) (2 * k + 1) (P .row)
 
-point-comm : (i j c r d s : ℕ) (p : List ℕ) → i ≢ j → point i c r (point j d s p) ≡ point j d s (point i c r p)
-
-point-comm i j c r d s p n =
-    ap (λ (l : List ℕ). set l (2 * i + 1) r) (set-comm (set p (2 * j) d) (2 * j + 1) (2 * i) s c (λ e. omega arith) ∙ ap (λ (l : List ℕ). set l (2 * j + 1) s) (set-comm p (2 * j) (2 * i) d c (λ e. n (omega arith))))
-    ∙ (set-comm (set (set p (2 * i) c) (2 * j) d) (2 * j + 1) (2 * i + 1) s r (λ e. n (omega arith)) ∙ ap (λ (l : List ℕ). set l (2 * j + 1) s) (set-comm (set p (2 * i) c) (2 * j) (2 * i + 1) d r (λ e. omega arith)))
-
-pub length-store : (L : Layout) (p : List ℕ) → length (store L p) ≡ length p
+pub store-length : (L : Layout) (p : List ℕ) → length (store L p) ≡ length p
 unfolding store
-length-store blank p = refl
-length-store (placed k P a b) p = length-store b _ ∙ (length-store a _ ∙ simp length-set)
+store-length blank p = refl
+store-length (placed k P a b) p = store-length b _ ∙ (store-length a _ ∙ simp length-set)
 
-store-point : (i c r : ℕ) (L : Layout) (p : List ℕ) → count i (nodes (shape L)) ≡ 0 → store L (point i c r p) ≡ point i c r (store L p)
-unfolding store shape
-store-point i c r blank p h = refl
-store-point i c r (placed k P a b) p h =
-    let e = count-node i k (shape a) (shape b) in
-    ap (λ (l : List ℕ). store b (store a l)) (point-comm k i (P .column) (P .row) c r p (λ q. omega (arith, same-one i k (sym q))))
-    ∙ (ap (store b) (store-point i c r a (point k (P .column) (P .row) p) (omega arith)) ∙ store-point i c r b (store a (point k (P .column) (P .row) p)) (omega arith))
+pub times-placed : (k j : ℕ) (P : Point) (a b : Layout) → times k (placed j P a b) ≡ same k j + (times k a + times k b)
+unfolding nodes shape count
+times-placed k j P a b = ap (λ (n : ℕ). same k j + n) (count-append k (nodes (shape a)) (nodes (shape b)))
 
--- Layouts of different records are stored in any order.
-pub store-comm : (A B : Layout) (p : List ℕ) → Apart (shape A) (shape B) → store A (store B p) ≡ store B (store A p)
-unfolding store shape
+pub times-node : (L : Layout) (n : Node L) → 1 ≤ times (recordOf n) L
+times-node (placed j P a b) root = omega (arith, times-placed j j P a b, same-one j j refl)
+times-node (placed j P a b) (left-node n) = omega (arith, times-placed (recordOf n) j P a b, times-node a n)
+times-node (placed j P a b) (right-node n) = omega (arith, times-placed (recordOf n) j P a b, times-node b n)
+
+-- An entry that is none of the layout's.
+abbrev pub Outside : ℕ → Layout → Type 0
+Outside i L = (k : ℕ) → 1 ≤ times k L → (i ≢ 2 * k) × (i ≢ 2 * k + 1)
+
+pub store-kept : (L : Layout) (p : List ℕ) (i : ℕ) → Outside i L → getD (store L p) i 0 ≡ getD p i 0
+unfolding store
+store-kept blank p i out = refl
+store-kept (placed k P a b) p i out =
+    store-kept b _ i (λ j h. out j (omega (arith, times-placed j k P a b))) ∙
+    (store-kept a (pair p k P) i (λ j h. out j (omega (arith, times-placed j k P a b))) ∙
+    (getD-set-other (set p (2 * k) (P .column)) (2 * k + 1) i (P .row) 0 (here .1) ∙ getD-set-other p (2 * k) i (P .column) 0 (here .0)))
+  where
+    here : (i ≢ 2 * k) × (i ≢ 2 * k + 1)
+    here = out k (omega (arith, times-placed k k P a b, same-one k k refl))
+
+-- The entries of a record that the layout does not have.
+kept-point : (L : Layout) (p : List ℕ) (j : ℕ) → times j L ≡ 0 → pointAt (store L p) j ≡ pointAt p j
+kept-point L p j none = ap₂ at (store-kept L p (2 * j) (λ k h. (λ e. other k h (omega arith), λ e. omega arith))) (store-kept L p (2 * j + 1) (λ k h. (λ e. omega arith, λ e. other k h (omega arith))))
+  where
+    other : (k : ℕ) → 1 ≤ times k L → j ≡ k → ⊥
+    other k h e = omega (arith, ap (λ (n : ℕ). times n L) e)
+
+-- What is stored at one record.
+pair-point : (p : List ℕ) (k : ℕ) (P : Point) → 2 * k + 1 < length p → pointAt (pair p k P) k ≡ P
+pair-point p k P room = ap₂ at
+    (getD-set-other (set p (2 * k) (P .column)) (2 * k + 1) (2 * k) (P .row) 0 (λ e. omega arith) ∙ getD-set-same p (2 * k) (P .column) 0 (omega arith))
+    (getD-set-same (set p (2 * k) (P .column)) (2 * k + 1) (P .row) 0 (simp length-set room))
+
+pub store-point : (L : Layout) (p : List ℕ) → ((k : ℕ) → times k L ≤ 1) → ((k : ℕ) → 1 ≤ times k L → 2 * k + 1 < length p) → (n : Node L) → pointAt (store L p) (recordOf n) ≡ point n
+unfolding store
+store-point (placed k P a b) p once room root =
+    kept-point b (store a (pair p k P)) k (omega (arith, once k, times-placed k k P a b, same-one k k refl)) ∙
+    (kept-point a (pair p k P) k (omega (arith, once k, times-placed k k P a b, same-one k k refl)) ∙
+    pair-point p k P (room k (omega (arith, times-placed k k P a b, same-one k k refl))))
+store-point (placed k P a b) p once room (left-node n) =
+    kept-point b (store a (pair p k P)) (recordOf n) (omega (arith, once (recordOf n), times-placed (recordOf n) k P a b, times-node a n)) ∙
+    store-point a (pair p k P) (λ j. omega (arith, once j, times-placed j k P a b)) (λ j h. simp length-set (room j (omega (arith, times-placed j k P a b)))) n
+store-point (placed k P a b) p once room (right-node n) =
+    store-point b (store a (pair p k P)) (λ j. omega (arith, once j, times-placed j k P a b))
+    (λ j h. rw (store-length a (pair p k P)) (simp length-set (room j (omega (arith, times-placed j k P a b))))) n
+
+-- Points of different records are stored in any order.
+pair-comm : (i j : ℕ) (P Q : Point) (p : List ℕ) → i ≢ j → pair (pair p j Q) i P ≡ pair (pair p i P) j Q
+pair-comm i j P Q p n =
+    ap (λ (l : List ℕ). set l (2 * i + 1) (P .row))
+    (set-comm (set p (2 * j) (Q .column)) (2 * j + 1) (2 * i) (Q .row) (P .column) (λ e. omega arith) ∙
+    ap (λ (l : List ℕ). set l (2 * j + 1) (Q .row)) (set-comm p (2 * j) (2 * i) (Q .column) (P .column) (λ e. n (omega arith)))) ∙
+    (set-comm (set (set p (2 * i) (P .column)) (2 * j) (Q .column)) (2 * j + 1) (2 * i + 1) (Q .row) (P .row) (λ e. n (omega arith)) ∙
+    ap (λ (l : List ℕ). set l (2 * j + 1) (Q .row)) (set-comm (set p (2 * i) (P .column)) (2 * j) (2 * i + 1) (Q .column) (P .row) (λ e. omega arith)))
+
+store-pair : (L : Layout) (i : ℕ) (P : Point) (p : List ℕ) → times i L ≡ 0 → store L (pair p i P) ≡ pair (store L p) i P
+unfolding store
+store-pair blank i P p none = refl
+store-pair (placed k Q a b) i P p none =
+    let e = times-placed i k Q a b in
+    ap (λ (l : List ℕ). store b (store a l)) (pair-comm k i Q P p (λ q. omega (arith, same-one i k (sym q)))) ∙
+    (ap (store b) (store-pair a i P (pair p k Q) (omega arith)) ∙ store-pair b i P (store a (pair p k Q)) (omega arith))
+
+-- No record is in both layouts.
+abbrev pub Apart : Layout → Layout → Type 0
+Apart A B = (k : ℕ) → times k A + times k B ≤ 1
+
+pub store-comm : (A B : Layout) (p : List ℕ) → Apart A B → store A (store B p) ≡ store B (store A p)
+unfolding store
 store-comm blank B p h = refl
 store-comm (placed k P a b) B p h =
-    let e : (i : ℕ) → count i (nodes (node k (shape a) (shape b))) ≡ same i k + (count i (nodes (shape a)) + count i (nodes (shape b))) = λ i. count-node i k (shape a) (shape b) in
-    ap (λ (l : List ℕ). store b (store a l)) (sym (store-point k (P .column) (P .row) B p (omega (arith, e k, h k, same-one k k refl))))
-    ∙ (ap (store b) (store-comm a B (point k (P .column) (P .row) p) (λ i. omega (arith, e i, h i))) ∙ store-comm b B (store a (point k (P .column) (P .row) p)) (λ i. omega (arith, e i, h i)))
+    ap (λ (l : List ℕ). store b (store a l)) (sym (store-pair B k P p (omega (arith, times-placed k k P a b, h k, same-one k k refl)))) ∙
+    (ap (store b) (store-comm a B (pair p k P) (λ i. omega (arith, times-placed i k P a b, h i))) ∙
+    store-comm b B (store a (pair p k P)) (λ i. omega (arith, times-placed i k P a b, h i)))
 
 -- A spine node: its point, what hangs from it, and then the rest.
-pub store-join : (k : ℕ) (P : Point) (s : Side) (D N : Layout) (p : List ℕ) → Apart (shape D) (shape N) → store (join k P s D N) p ≡ store N (store D (point k (P .column) (P .row) p))
+pub store-join : (k : ℕ) (P : Point) (s : Side) (D N : Layout) (p : List ℕ) → Apart D N → store (join k P s D N) p ≡ store N (store D (pair p k P))
 unfolding store join
 store-join k P left D N p h = refl
 store-join k P right D N p h = store-comm D N _ h

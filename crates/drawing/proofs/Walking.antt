@@ -21,8 +21,7 @@ use Rattle.drawing.specs.Stub.{handOf as sideOfCoded, roleOf}
 use Rattle.drawing.specs.Answer.{store}
 use Rattle.drawing.specs.declared.place.Walk.{Walk}
 use Rattle.drawing.specs.Placing.{isKnee, isSwitch, point, Columns, Given, Hanging, Hung, deepest, Room, finished, Ready, walkTo, handOf, spineFrom, Going, Stepped}
-use Rattle.drawing.proofs.Store.{Apart, count-node}
-use Rattle.drawing.proofs.Shapes.{plug, treeOf, tree-spine, height-none, width-none}
+use Rattle.drawing.proofs.Shapes.{Disjoint, count-node, plug, treeOf, tree-spine, height-none, width-none}
 use Rattle.drawing.proofs.Columns.{columns-less, columns-edge, columns-count, columns-in, side-not}
 use Rattle.drawing.proofs.Onward.{knee-far, knee-near, ordinary-on, switch-over, deepest-far, deepest-near, deepest-over, along-role, along-hung, ready-far, ready-near, ready-ordinary, ready-switch, rows-far, rows-knee, rows-ordinary, rows-switch}
 
@@ -124,10 +123,10 @@ module _ (t roles gaps : List ℕ) (w : Walk) (spine hung : ℕ) (h : Side) (f :
   here : (o : Role) → Going t roles gaps o w → Ready roles gaps (w .gap) a (w .edge) o (w .lowest) (w .row) Q (hangs (w .at) h S ∷ spineOn s R)
   here o g = subst (Ready roles gaps (w .gap) a (w .edge) o (w .lowest) (w .row) Q) (f .forks) (g .ready)
 
-  apart : (o : Role) → Going t roles gaps o w → Apart S (treeOf (spineOn s R))
+  apart : (o : Role) → Going t roles gaps o w → Disjoint S (treeOf (spineOn s R))
   apart o g = rw (tree-spine s R) (λ k. omega (arith, g .once k, counts k))
 
-  apart-pending : (o : Role) → Going t roles gaps o w → Apart Q (treeOf (spineOn s R))
+  apart-pending : (o : Role) → Going t roles gaps o w → Disjoint Q (treeOf (spineOn s R))
   apart-pending o g = rw (tree-spine s R) (λ k. omega (arith, g .once k, counts k))
 
   -- The role that is kept for the node is the walk's.
