@@ -1,2 +1,4 @@
 -- The laws that the functions of this crate rest on.
 pub mod Forks
+pub mod Choices
+pub mod Spines

@@ -1,4 +1,7 @@
 // Spines measured before they are drawn: the roles of every spine, and its W.
+mod hung;
+pub mod roles;
+mod walk;
 mod words;
 
 use crate::words::left;
