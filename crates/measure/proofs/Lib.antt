@@ -2,3 +2,5 @@
 pub mod Forks
 pub mod Choices
 pub mod Spines
+pub mod Frames
+pub mod Walks
