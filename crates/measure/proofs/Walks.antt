@@ -13,7 +13,8 @@ use Rattle.table.specs.Lists.{member, count}
 use Rattle.table.specs.Table.{Side, left, right, leftOf, rightOf, chain}
 use Rattle.table.specs.Tree.{Tree, none, node, size, nodes, treeAt}
 use Rattle.table.specs.Refusal.{fault}
-use Rattle.table.proofs.Lists.{same, same-one}
+use Rattle.table.proofs.Lists.{same, same-one, length-within}
+use Rattle.table.proofs.Chain.{length-nodes}
 use Rattle.table.proofs.Accepted.{records-bounds, chain-length, size-below, tree-unfolds, tree-none}
 use Rattle.layout.specs.Layout.{width, mirror}
 use Rattle.layout.specs.Spine.{SpineNode, hangs, Role, knee, ordinary, switch, opposite, seen, roleAfter, handAfter, assigned, Assigned, rolesAfter}
@@ -21,12 +22,15 @@ use Rattle.layout.specs.Drawing.{Part, part, hang, widest, draw}
 use Rattle.layout.specs.Held.{facing, widthOn, spineOn, roleNext, rolesOn, widestOn}
 use Rattle.layout.specs.Width.{edge, turn, reaches, turns, partsOn}
 use Rattle.layout.proofs.Width.{width-law, widest-less, width-small}
+use Rattle.measure.specs.declared.roles.Role.{Role as CodeRole}
+use Rattle.measure.specs.declared.walk.Walk.{Walk}
 use Rattle.measure.specs.Sized.{Named}
 use Rattle.measure.specs.Forked.{Forked}
 use Rattle.measure.specs.Prepared.{codeOf, Prepared, no-spine, a-spine, Along, ended}
-use Rattle.measure.specs.Roles.{withRoles}
-use Rattle.measure.specs.Measured.{Kept, Measured}
+use Rattle.measure.specs.Roles.{handOf, roleOf, withRoles}
+use Rattle.measure.specs.Measured.{Kept, Measured, Longer}
 use Rattle.measure.proofs.Forks.{named-within}
+use Rattle.measure.proofs.Choices.{code-same, code-small}
 use Rattle.measure.proofs.Frames.{countOn, countHung, count-spine, hung-below, nodes-named, once, Agree, prepared-frame, along-frame, Coded, coded-frame, with-kept, with-coded, AlongAfter, along-node}
 
 -- The parts that follow a node of role o on the hand a.
@@ -114,7 +118,7 @@ module _ (t : List ℕ) (ok : fault t ≡ 0) (s : Side) (root : ℕ) where
       within : (x : ℕ) → 1 ≤ countOn x ls → x < length R
       within x i = omega (arith, named-within t ok x (nodes-named t ok root n x (omega (arith, count-spine s x S))))
 
-  module _ (R₀ G₀ R G : List ℕ) (k g e : ℕ) (b : Bool) (a : Side) (o : Role) (v : Walking t s root R₀ G₀ R G k g e b a o) (k′ hung : ℕ) (h : Side) (d : Forked t s k k′ hung h) where
+  module _ {R₀ G₀ R G : List ℕ} {k g e : ℕ} {b : Bool} {a : Side} {o : Role} (v : Walking t s root R₀ G₀ R G k g e b a o) {k′ hung : ℕ} {h : Side} (d : Forked t s k k′ hung h) where
     abbrev hand : Side
     hand = handAfter o a
 
@@ -158,8 +162,11 @@ module _ (t : List ℕ) (ok : fault t ≡ 0) (s : Side) (root : ℕ) where
         hangs-on R″ G″ kr kg =
             prepared-frame R″ G″ (m .prepared) (λ x (i : 1 ≤ count x (nodes (treeAt t hung))). kr x (omega (arith, single x))) (λ x (i : 1 ≤ count x (nodes (treeAt t hung))). kg x (omega (arith, single x)))
 
+  pub size-inside : {R₀ G₀ R G : List ℕ} {k g e : ℕ} {b : Bool} {a : Side} {o : Role} → Walking t s root R₀ G₀ R G k g e b a o → size (treeAt t k) ≤ size (treeAt t root)
+  size-inside {k} v = omega (arith, length-within (nodes (treeAt t k)) (nodes (treeAt t root)) (v .inside), length-nodes (treeAt t k), length-nodes (treeAt t root))
+
   -- The end of the walk.
-  module _ (c : T (member root (chain t))) (R₀ G₀ R G : List ℕ) (k g e : ℕ) (b : Bool) (a : Side) (o : Role) (v : Walking t s root R₀ G₀ R G k g e b a o) where
+  module _ (c : T (member root (chain t))) {R₀ G₀ R G : List ℕ} {k g e : ℕ} {b : Bool} {a : Side} {o : Role} (v : Walking t s root R₀ G₀ R G k g e b a o) where
     abbrev S : Tree
     S = treeAt t root
 
@@ -203,3 +210,47 @@ module _ (t : List ℕ) (ok : fault t ≡ 0) (s : Side) (root : ℕ) where
         top d =
             subst (Prepared R (set G root g) s) (sym d)
             (a-spine (getD-set-same G root g 0 (omega (arith, named-within t ok root (inr c))) ∙ gap-whole z ∙ ap (widestOn s) d) (subst (λ (U : Tree). Along R (set G root g) s knee (spineOn s U)) d along))
+
+-- The same at a walk as the program has it.
+pub record Measuring (t : List ℕ) (s : Side) (root : ℕ) (R₀ G₀ R G : List ℕ) (v : Walk) : Type 0 where
+  pub long-roles : length R ≡ 4097
+  pub long-gaps : length G ≡ 4097
+  pub hand : Side
+  pub role : Role
+  pub walking : Walking t s root R₀ G₀ R G (v .at) (v .gap) (v .reach) (v .turned) hand role
+
+moved : {t : List ℕ} {s a : Side} {o : Role} {root k k′ g g′ e e′ : ℕ} {b b′ : Bool} {R₀ G₀ R G : List ℕ} → k′ ≡ k → g′ ≡ g → e′ ≡ e → b′ ≡ b → Walking t s root R₀ G₀ R G k g e b a o → Walking t s root R₀ G₀ R G k′ g′ e′ b′ a o
+moved p q r u w = rw (p, q, r, u) w
+
+-- No subtree.
+none-wide : (s : Side) → widthOn s none ≡ 0
+unfolding spineOn rolesOn turns reaches
+none-wide s = width-law s none
+
+pub measured-none : (t : List ℕ) (s : Side) (k : ℕ) (R G : List ℕ) → k ≡ 0 → Measured t s k R G R G 0
+measured-none t s k R G e = record { wide = sym (ap (widthOn s) none-there ∙ none-wide s); prepared = subst (Prepared R G s) (sym none-there) no-spine; kept-roles = λ x i. refl; kept-gaps = λ x i. refl }
+  where
+    none-there : treeAt t k ≡ none
+    none-there = rw e (tree-none t)
+
+-- A drawing that is measured is narrow.
+pub measured-small : (t : List ℕ) → fault t ≡ 0 → {s : Side} {k w : ℕ} {R G R′ G′ : List ℕ} → Named t k → Measured t s k R G R′ G′ w → w ≤ 37
+measured-small t ok {s} {k} n m = omega (arith, m .wide, width-small s (treeAt t k) (size-small t ok k n))
+
+module _ (t : List ℕ) (ok : fault t ≡ 0) (s : Side) (root : ℕ) {R₀ G₀ R G : List ℕ} {v : Walk} (c : Measuring t s root R₀ G₀ R G v) {next hung : ℕ} {h : Side} (d : Forked t s (v .at) next hung h) where
+  pub role-small : getD R (v .at) 0 < 6
+  role-small = omega (arith, coded-here t ok s root (c .walking) d .0, code-small (hand t ok s root (c .walking) d) (role t ok s root (c .walking) d))
+
+  pub step : (r : CodeRole) → getD R (v .at) 0 ≡ codeOf (handOf r) (roleOf r) → (u : Side) → u ≡ handOf r → (R′ G′ : List ℕ) (w : ℕ) → length R′ ≡ length R → length G′ ≡ length G → Measured t u hung R G R′ G′ w →
+      (v′ : Walk) → Longer v r w next v′ → Measuring t s root R₀ G₀ R′ G′ v′
+  step r e u i R′ G′ w lr lg m v′ l = record {
+    long-roles = lr ∙ c .long-roles;
+    long-gaps = lg ∙ c .long-gaps;
+    hand = _;
+    role = _;
+    walking = moved (l .at) (l .gap) (l .reach ∙ ap (λ (o : Role). max (v .reach) (edge o + w)) (same .1)) (l .turned ∙ ap (λ (o : Role). turn o (v .turned)) (same .1))
+        (pass t ok s root (c .walking) d R′ G′ w (subst (λ (a : Side). Measured t a hung R G R′ G′ w) (i ∙ same .0) m));
+  }
+    where
+      same : (handOf r ≡ hand t ok s root (c .walking) d) × (roleOf r ≡ role t ok s root (c .walking) d)
+      same = code-same _ _ _ _ (sym e ∙ coded-here t ok s root (c .walking) d .0)
