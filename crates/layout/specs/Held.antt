@@ -10,7 +10,7 @@ use Rattle.segment.specs.Segment.{at}
 use Rattle.table.specs.Table.{Side, left, right}
 use Rattle.table.specs.Tree.{Tree, none, node, size}
 use Rattle.layout.specs.Layout.{Layout, blank, placed, width, height, mirror}
-use Rattle.layout.specs.Spine.{SpineNode, hangs, Role, knee, ordinary, switch, opposite, seen, roleAfter, handAfter, Assigned, assigned, rolesAfter}
+use Rattle.layout.specs.Spine.{SpineNode, hangs, Role, knee, ordinary, switch, opposite, seen, roleAfter, Assigned, assigned, rolesAfter}
 use Rattle.layout.specs.Drawing.{hang, widest, join, Rest, draw}
 
 -- The tree as a side sees it.

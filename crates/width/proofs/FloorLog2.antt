@@ -1,14 +1,14 @@
--- floor(log2 n) lies between powers of two: `floor-bounds`, and is the only number that does: `floor-unique`.
+-- floor(log2 n) lies between powers of two: `floor-bounds`, and is the only number that does: `floor-unique`. The allowed width from it: `allowed-some`.
 use mathlib.Core.Path.{_≡_, refl}
 use mathlib.Core.Bool.{Bool, true, false}
-use Prim.Native.Nat.{ℕ, zero, suc, _+_, _^_, _≤_, _<_}
+use Prim.Native.Nat.{ℕ, zero, suc, _+_, _*_, _^_, _≤_, _<_}
 use native.Mathlib.Nat.{two-pow-succ, le-antisymm}
 use native.Mathlib.Decide.{decLe}
 use native.Mathlib.Omega.{arith}
 use lib.Dec.{leb}
 use lib.Pow.{pow-mono, pow-pos}
-use borrow.Author.Tests.{leb-true, leb-false}
-use Rattle.width.specs.Allowed.{greatest, floorLog2}
+use borrow.Author.Tests.{leb-true, leb-false, ne-eqb, le-ltb}
+use Rattle.width.specs.Allowed.{greatest, floorLog2, allowedWidth}
 
 -- k is floor(log2 n): 2 to the power k is at most n, and 2 to the power k + 1 is not.
 pub record Between (n k : ℕ) : Type 0 where
@@ -43,3 +43,8 @@ not-above {n} {j} {k} a b = go (decLe j k)
 
 pub floor-unique : {n k : ℕ} → 1 ≤ n → Between n k → k ≡ floorLog2 n
 floor-unique {n} one b = le-antisymm (not-above b (floor-bounds n one)) (not-above (floor-bounds n one) b)
+
+-- The allowed width where it is not 0.
+pub allowed-some : (n : ℕ) → 1 ≤ n → n ≤ 4096 → allowedWidth n ≡ 3 * floorLog2 n + 1
+unfolding allowedWidth
+allowed-some n one most = simp (ne-eqb n 0 (λ e. omega arith), le-ltb 4096 n most)
