@@ -4,16 +4,19 @@ pub mod roles;
 mod walk;
 mod words;
 
+use crate::hung::measure_left;
 use crate::words::left;
 use crate::words::right;
 ghost use mathlib.Core.Path.{_≡_};
 ghost use mathlib.Core.Bool.{cond};
 ghost use lib.Dec.{T, leb, ltb};
+ghost use lib.ListN.{length};
 ghost use Rattle.table.specs.Lists.{member};
-ghost use Rattle.table.specs.Table.{chain};
+ghost use Rattle.table.specs.Table.{left as leftSide, chain};
 ghost use Rattle.table.specs.Refusal.{fault};
 ghost use Rattle.measure.specs.Sized.{Sized};
 ghost use Rattle.measure.specs.Forked.{Forked, sideOf};
+ghost use Rattle.measure.specs.Measured.{Measured};
 
 // The child that a spine goes on to, the child off the spine, 0 for none, and whether that one is the right child.
 pub struct Fork {
@@ -53,4 +56,21 @@ pub fn fork_at(table: &[u8], sizes: &[u16], at: usize, mirrored: bool) -> Fork
         hung: r,
         hung_right: true,
     }
+}
+
+// The roles of every spine and its W, for the drawing of the tree from `root` on. Answers the drawing's width.
+pub fn prepare(
+    table: &[u8],
+    sizes: &[u16],
+    roles: &mut [u16],
+    gaps: &mut [u16],
+    root: usize,
+) -> usize
+    requires { ⌜ fault (now table) ≡ 0 ⌝ }
+    requires { ⌜ T (member root (chain (now table))) ⌝ }
+    requires { ⌜ Sized (now table) (now sizes) ⌝ }
+    requires { ⌜ (length (now roles) ≡ 4097) × (length (now gaps) ≡ 4097) ⌝ }
+    ensures { λ r. ⌜ Measured (now (table .entry)) leftSide root (now (roles .entry)) (now (gaps .entry)) (now (roles .exit)) (now (gaps .exit)) r ⌝ }
+{
+    measure_left(table, sizes, roles, gaps, root)
 }
