@@ -9,3 +9,4 @@ pub mod Filled
 pub mod Whole
 pub mod Theorem
 pub mod Records
+pub mod Width

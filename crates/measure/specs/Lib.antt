@@ -2,3 +2,5 @@
 pub mod Sized
 pub mod Forked
 pub mod Prepared
+pub mod Roles
+pub mod Measured
