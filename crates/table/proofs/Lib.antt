@@ -1,1 +1,4 @@
+pub mod Lists
+pub mod Chain
+pub mod Accepted
 pub mod Form
