@@ -1,4 +1,5 @@
 pub mod Lists
 pub mod Chain
+pub mod Sound
 pub mod Accepted
 pub mod Form
