@@ -3,3 +3,4 @@ pub mod Chain
 pub mod Sound
 pub mod Accepted
 pub mod Form
+pub mod Walking

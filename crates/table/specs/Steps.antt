@@ -25,6 +25,11 @@ pub record Listed (t : List ℕ) (n : ℕ) (list : List ℕ) : Type 0 where
   pub nodes : n ≡ length (chain t)
   pub listed : take n list ≡ chain t
 
+-- A list of 4,097 zeros.
+pub record Blank (l : List ℕ) : Type 0 where
+  pub long : length l ≡ 4097
+  pub zeros : (k : ℕ) → getD l k 0 ≡ 0
+
 -- mark has 1 at the records of the chain, 0 at the others.
 pub record Marked (t mark : List ℕ) : Type 0 where
   pub long : length mark ≡ 4097

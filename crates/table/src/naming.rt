@@ -5,16 +5,16 @@ ghost use mathlib.Core.Path.{_≡_};
 ghost use mathlib.Core.Bool.{false, _||_, _&&_, not};
 ghost use Prim.Native.Nat.{_<_};
 ghost use lib.Dec.{eqb};
-ghost use lib.ListN.{length, getD, replicate};
+ghost use lib.ListN.{length, getD};
 ghost use Rattle.table.specs.Table.{rootOf};
 ghost use Rattle.table.specs.Refusal.{badLinks, named};
-ghost use Rattle.table.specs.Steps.{Listed, Tallied, notOnce};
+ghost use Rattle.table.specs.Steps.{Listed, Blank, Tallied, notOnce};
 
 // Counts the links to each record.
 fn count(table: &[u8], chain: &[u16], nodes: usize, tally: &mut [u16])
     requires { ⌜ Listed (now table) nodes (now chain) ⌝ }
     requires { ⌜ badLinks (now table) ≡ false ⌝ }
-    requires { ⌜ now tally ≡ replicate 4097 0 ⌝ }
+    requires { ⌜ Blank (now tally) ⌝ }
     ensures { λ _. ⌜ Tallied (now (table .entry)) (now (tally .exit)) ⌝ }
 {
     let mut i = 0;

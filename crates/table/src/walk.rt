@@ -3,14 +3,14 @@ use crate::Reading;
 use crate::words::next;
 ghost use mathlib.Core.Path.{_≡_};
 ghost use Prim.Native.Nat.{_<_};
-ghost use lib.ListN.{length, replicate};
-ghost use Rattle.table.specs.Steps.{Shaped, Walked};
+ghost use lib.ListN.{length};
+ghost use Rattle.table.specs.Steps.{Shaped, Blank, Walked};
 
 // Lists the records of the chain and marks them.
 pub fn walk(table: &[u8], chain: &mut [u16], mark: &mut [u16]) -> Reading
     requires { ⌜ Shaped (now table) ⌝ }
     requires { ⌜ length (now chain) ≡ 4097 ⌝ }
-    requires { ⌜ now mark ≡ replicate 4097 0 ⌝ }
+    requires { ⌜ Blank (now mark) ⌝ }
     ensures { λ r. ⌜ Walked (now (table .entry)) r (now (chain .exit)) (now (mark .exit)) ⌝ }
 {
     let records = table.len() / 8;
