@@ -4,3 +4,4 @@ pub mod Sound
 pub mod Accepted
 pub mod Form
 pub mod Walking
+pub mod Scan

@@ -75,6 +75,9 @@ module _ (t : List ℕ) (i at : ℕ) (list mark : List ℕ) (w : Walk t i at lis
     unfolding badChain beyond
     sound = rw ended (or-false² (any (beyond t) (take i list)) (repeats (take i list)) .1 (any-false (beyond t) (take i list) .1 (λ k h. lt-leb (records t) k (w .within k h .1)), w .once))
 
+    long : i ≤ length list
+    long = omega (arith, w .room, w .list-long, shaped .room)
+
     pub walk-end : Walked t (record { refusal = 0; nodes = i }) list mark
     walk-end = record {
       refusal = rw sound;
@@ -82,7 +85,8 @@ module _ (t : List ℕ) (i at : ℕ) (list mark : List ℕ) (w : Walk t i at lis
           λ r. record {
             shaped = shaped;
             sound = sound;
-            nodes = rw ended (sym (length-take-le i list (omega (arith, w .room, w .list-long, shaped .room))));
+            nodes = rw ended (sym (length-take-le i list long));
+            long = long;
             listed = sym ended
           };
       marked = λ r. record { long = w .mark-long; marks = rw ended (w .marks) }

@@ -23,6 +23,7 @@ pub record Listed (t : List ℕ) (n : ℕ) (list : List ℕ) : Type 0 where
   pub shaped : Shaped t
   pub sound : badChain t ≡ false
   pub nodes : n ≡ length (chain t)
+  pub long : n ≤ length list
   pub listed : take n list ≡ chain t
 
 -- A list of 4,097 zeros.
