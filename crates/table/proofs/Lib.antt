@@ -5,3 +5,4 @@ pub mod Accepted
 pub mod Form
 pub mod Walking
 pub mod Scan
+pub mod Tally

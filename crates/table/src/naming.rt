@@ -3,12 +3,20 @@ use crate::words::left;
 use crate::words::right;
 ghost use mathlib.Core.Path.{_≡_};
 ghost use mathlib.Core.Bool.{false, _||_, _&&_, not};
-ghost use Prim.Native.Nat.{_<_};
+ghost use Prim.Native.Nat.{_+_, _<_};
 ghost use lib.Dec.{eqb};
-ghost use lib.ListN.{length, getD};
+ghost use lib.ListN.{length, getD, set};
 ghost use Rattle.table.specs.Table.{rootOf};
 ghost use Rattle.table.specs.Refusal.{badLinks, named};
 ghost use Rattle.table.specs.Steps.{Listed, Blank, Tallied, notOnce};
+
+// One more link to record k.
+fn tick(tally: &mut [u16], k: usize)
+    requires { ⌜ (k < length (now tally)) × (getD (now tally) k 0 < 65535) ⌝ }
+    ensures { λ _. ⌜ now (tally .exit) ≡ set (now (tally .entry)) k (getD (now (tally .entry)) k 0 + 1) ⌝ }
+{
+    tally[k] += 1;
+}
 
 // Counts the links to each record.
 fn count(table: &[u8], chain: &[u16], nodes: usize, tally: &mut [u16])
@@ -20,10 +28,8 @@ fn count(table: &[u8], chain: &[u16], nodes: usize, tally: &mut [u16])
     let mut i = 0;
     while i < nodes {
         let k = chain[i] as usize;
-        let l = left(table, k);
-        tally[l] += 1;
-        let r = right(table, k);
-        tally[r] += 1;
+        tick(tally, left(table, k));
+        tick(tally, right(table, k));
         i += 1;
     }
 }
