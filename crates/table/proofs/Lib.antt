@@ -6,3 +6,4 @@ pub mod Form
 pub mod Walking
 pub mod Scan
 pub mod Tally
+pub mod Zeros
