@@ -7,3 +7,4 @@ pub mod Walking
 pub mod Scan
 pub mod Tally
 pub mod Zeros
+pub mod Order

@@ -69,13 +69,12 @@ present [] = []
 present (zero ∷ ks) = present ks
 present (suc k ∷ ks) = suc k ∷ present ks
 
--- A breadth-first order, as far as its node h: the root, then the children of the first h nodes. They are of the chain, none is there twice, and each of the h
--- stands before its children.
+-- A breadth-first order, as far as its node h: the root, then the children of the first h nodes, each of the h before its children. No record stands there more often
+-- than on the chain.
 pub record Queue (t : List ℕ) (h : ℕ) (order : List ℕ) : Type 0 where
   pub listed : order ≡ rootOf t ∷ present (links t (take h order))
   pub early : (i : ℕ) → i < h → i ≤ length (present (links t (take i order)))
-  pub chained : (k : ℕ) → T (member k order) → T (member k (chain t))
-  pub once : (k : ℕ) → count k order ≤ 1
+  pub within : (k : ℕ) → count k order ≤ count k (chain t)
 
 -- sizes has the sizes of the subtrees at the given nodes, and 0 at zero.
 pub record Filled (t : List ℕ) (ks sizes : List ℕ) : Type 0 where

@@ -1,3 +1,11 @@
+-- `push` puts a link that is not zero at the end of the order.
+use mathlib.Core.List.{append-nil}
+use mathlib.Core.Path.{sym, ap}
+use native.Mathlib.Numerals.{add-one}
+use native.Mathlib.Omega.{arith}
+use lib.ListN.{length}
+use lib.Seq.{take-suc-set}
+use Rattle.table.proofs.Order.{present-none, present-one}
 use borrow.Author.Needs.{needs}
 use Rattle.table.proofs.reach.push.Statement.{statement}
 use Rattle.table.proofs.reach.push.Tie as tie
@@ -6,7 +14,7 @@ use Rattle.table.proofs.reach.push.Lts as lts
 
 -- src/reach.rt:21:9
 returns : tie.Need-returns
-returns c = ?
+returns c = rw (present-none _ (c .if1 .taken)) (omega arith, sym (append-nil _))
 
 -- src/reach.rt:23:19
 cast-order : tie.Need-cast-order
@@ -18,7 +26,7 @@ mul-order c = search needs
 
 -- src/reach.rt:23:5
 slice-write-order : tie.Need-slice-write-order
-slice-write-order c = ?
+slice-write-order c = omega (arith, ap length (present-one (c .before .args .link) (c .if1 .left)))
 
 -- src/reach.rt:24:5
 add-result : tie.Need-add-result
@@ -30,7 +38,7 @@ same-length c = search needs
 
 -- src/reach.rt:14:1
 returns-2 : tie.Need-returns-2
-returns-2 c = ?
+returns-2 c = rw (present-one _ (c .if1 .left)) (omega arith, rw add-one (take-suc-set _ _ _ (slice-write-order c)))
 
 pub push-spec : {M : Type 1} → statement M
 push-spec =
