@@ -8,3 +8,4 @@ pub mod Scan
 pub mod Tally
 pub mod Zeros
 pub mod Order
+pub mod Reached

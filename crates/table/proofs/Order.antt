@@ -31,20 +31,20 @@ unfolding present
 present-one zero h = absurd (h refl)
 present-one (suc k) h = refl
 
-present-append : (a b : List ℕ) → present (a ++ b) ≡ present a ++ present b
+pub present-append : (a b : List ℕ) → present (a ++ b) ≡ present a ++ present b
 unfolding present
 present-append [] b = refl
 present-append (zero ∷ ks) b = present-append ks b
 present-append (suc k ∷ ks) b = ap (λ (l : List ℕ). suc k ∷ l) (present-append ks b)
 
 -- Only zeros are left out.
-count-present : (x : ℕ) (ks : List ℕ) → count (suc x) (present ks) ≡ count (suc x) ks
+pub count-present : (x : ℕ) (ks : List ℕ) → count (suc x) (present ks) ≡ count (suc x) ks
 unfolding present count
 count-present x [] = refl
 count-present x (zero ∷ ks) = rw eqb·suc-zero (omega (arith, count-present x ks))
 count-present x (suc k ∷ ks) = ap (λ (n : ℕ). same (suc x) (suc k) + n) (count-present x ks)
 
-zero-present : (ks : List ℕ) → count 0 (present ks) ≡ 0
+pub zero-present : (ks : List ℕ) → count 0 (present ks) ≡ 0
 unfolding present count
 zero-present [] = refl
 zero-present (zero ∷ ks) = zero-present ks
