@@ -9,3 +9,4 @@ pub mod Tally
 pub mod Zeros
 pub mod Order
 pub mod Reached
+pub mod Sizes

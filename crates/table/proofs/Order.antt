@@ -109,8 +109,8 @@ module _ (t : List ℕ) (r : Rooted t) where
   queue-length : (h : ℕ) (o : List ℕ) → Queue t h o → length o < 4097
   queue-length h o q = omega (arith, length-within o (chain t) (q .within), shorter t (r .sound) (r .shaped .head), r .shaped .room)
 
-  pub queue-chained : (h : ℕ) (o : List ℕ) → Queue t h o → (i : ℕ) → i < length o → T (member (getD o i 0) (chain t))
-  queue-chained h o q i l = member-count (getD o i 0) (chain t) .1 (omega (arith, member-count (getD o i 0) o .0 (member-at o i l), q .within (getD o i 0)))
+pub queue-chained : (t : List ℕ) (h : ℕ) (o : List ℕ) → Queue t h o → (i : ℕ) → i < length o → T (member (getD o i 0) (chain t))
+queue-chained t h o q i l = member-count (getD o i 0) (chain t) .1 (omega (arith, member-count (getD o i 0) o .0 (member-at o i l), q .within (getD o i 0)))
 
 -- An array whose first `tail` numbers are such an order, as far as its node `head`.
 pub record Spreading (t order : List ℕ) (head tail : ℕ) : Type 0 where
@@ -139,7 +139,7 @@ module _ (t order : List ℕ) (r : Rooted t) where
     at-head = getD-take tail order head 0 lt
 
     pub spread-inside : getD order head 0 < records t
-    spread-inside = rw (← at-head) (inside t (r .sound) _ (queue-chained t r head (take tail order) (s .queue) head (omega (arith, first-tail))) .1)
+    spread-inside = rw (← at-head) (inside t (r .sound) _ (queue-chained t head (take tail order) (s .queue) head (omega (arith, first-tail))) .1)
 
     module _ (a b : ℕ) (ea : a ≡ leftOf t (getD order head 0)) (eb : b ≡ rightOf t (getD order head 0)) where
       step : Queue t (head + 1) ((take tail order ++ present (a ∷ [])) ++ present (b ∷ []))

@@ -71,7 +71,7 @@ present-child : (t ks : List ℕ) (x : ℕ) → T (member x (present (links t ks
 present-child t ks zero m = absurd (omega (arith, zero-present (links t ks), member-count 0 (present (links t ks)) .0 m))
 present-child t ks (suc x) m = (omega arith, namer t (suc x) ks (omega (arith, count-present x (links t ks), member-count (suc x) (present (links t ks)) .0 m)))
 
-module _ (t : List ℕ) (r : Rooted t) (o : List ℕ) (q : Queue t (length o) o) where
+module _ (t o : List ℕ) (q : Queue t (length o) o) where
   -- At each place the order is the root, the children of the nodes before it, and those of the others.
   split : (i : ℕ) → o ≡ rootOf t ∷ (present (links t (take i o)) ++ present (links t (drop i o)))
   split i =
@@ -100,12 +100,13 @@ module _ (t : List ℕ) (r : Rooted t) (o : List ℕ) (q : Queue t (length o) o)
       let d : linkOf t (p .1) (getD o (j .0) 0) ≡ getD A i 0 = ap (linkOf t (p .1)) (sym (getD-take (suc i) o (j .0) 0 l) ∙ j .2) ∙ p .3 in
       (j .0, p .1, l, omega (arith, c .0), d ∙ sym e)
 
+module _ (t : List ℕ) (r : Rooted t) (o : List ℕ) (q : Queue t (length o) o) where
   -- Node i is within i + 1 levels.
   level : (n i : ℕ) → i < n → i < length o → T (member (getD o i 0) (nodes (descend (suc i) t (rootOf t))))
   level zero i l h = absurd (omega arith)
   level (suc n) zero l h = rw (ap (λ (k : List ℕ). getD k 0 0) (q .listed)) (nodes-root t 0 (rootOf t) (inside t (r .sound) (rootOf t) (r .root) .0))
   level (suc n) (suc i) l h =
-      let e = earlier i h in
+      let e = earlier t o q i h in
       rw (← (e .4))
       (nodes-more t (suc (suc (e .0))) (suc (suc i)) (rootOf t) (linkOf t (e .1) (getD o (e .0) 0)) (omega (arith, e .2))
       (nodes-child t (suc (e .0)) (rootOf t) (getD o (e .0) 0) (e .1) (e .3) (level n (e .0) (omega (arith, e .2)) (omega (arith, e .2)))))
