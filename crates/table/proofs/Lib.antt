@@ -10,3 +10,4 @@ pub mod Zeros
 pub mod Order
 pub mod Reached
 pub mod Sizes
+pub mod Rooting

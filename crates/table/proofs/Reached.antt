@@ -13,7 +13,7 @@ use Rattle.table.specs.Lists.{any, member, count}
 use Rattle.table.specs.Table.{Side, left, right, records, leftOf, rightOf, linkOf, rootOf, chain}
 use Rattle.table.specs.Tree.{Tree, none, node, nodes, tree, descend}
 use Rattle.table.specs.Refusal.{links}
-use Rattle.table.specs.Steps.{Rooted, Queue, present, notReached}
+use Rattle.table.specs.Steps.{Rooted, Queue, Filled, present, notReached}
 use Rattle.table.proofs.Lists.{T-true, T-false, passes, or-T, any-false, count-append, member-append, member-cons, member-count, Within, within, length-within, within-back, covers}
 use Rattle.table.proofs.Chain.{nodes-cases, links-append, names, namer, reached}
 use Rattle.table.proofs.Sound.{distinct, inside, shorter}
@@ -138,3 +138,32 @@ module _ (t : List ℕ) (r : Rooted t) (o : List ℕ) (q : Queue t (length o) o)
       go k m =
           reached (λ n. 0 < n → T (member n o)) t next (records t) (rootOf t) (λ z. first) k
           (passes (member k (nodes (tree t))) (any-false (λ n. not (member n (nodes (tree t)))) (chain t) .0 e k m)) (inside t (r .sound) k m .0)
+
+-- The first m numbers of an array are a whole order.
+module _ (t order : List ℕ) (m n : ℕ) (r : Rooted t) (long : length order ≡ 4097) (q : (m ≤ 4097) × Queue t m (take m order)) (nodes : n ≡ length (chain t)) where
+  size-order : length (take m order) ≡ m
+  size-order = length-take-le m order (omega (arith, q .0))
+
+  whole : Queue t (length (take m order)) (take m order)
+  whole = subst (λ (k : ℕ). Queue t k (take m order)) (sym size-order) (q .1)
+
+  pub missed : (m ≡ n → ⊥) → false ≡ not (notReached t)
+  missed d = go (notReached t) refl
+    where
+      go : (b : Bool) → notReached t ≡ b → false ≡ not b
+      go true e = refl
+      go false e = absurd (d (omega (arith, size-order, reached-all t r (take m order) whole e)))
+
+  module _ (e : m ≡ n) where
+    as-long : length (take m order) ≡ length (chain t)
+    as-long = omega (arith, size-order)
+
+    pub none-missed : notReached t ≡ false
+    none-missed = all-reached t r (take m order) whole as-long
+
+    pub filled-chain : (sizes : List ℕ) → Filled t (take m order) sizes → Filled t (chain t) sizes
+    filled-chain sizes f = record {
+      long = f .long;
+      sized = λ k h. f .sized k (member-count k (take m order) .1 (omega (arith, member-count k (chain t) .0 h, within-back (take m order) (chain t) (q .1 .within) (omega (arith, as-long)) k)));
+      none = f .none
+    }

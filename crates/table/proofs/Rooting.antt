@@ -1,0 +1,59 @@
+-- Cause 5 from the tests of the code. Rests on Lists, Chain and Sound.
+use mathlib.Core.Path.{_≡_, refl, sym, ap, _∙_}
+use mathlib.Core.Bool.{Bool, true, false, not, cond, _&&_, _||_, or-assoc, or-true, and-false}
+use mathlib.Core.List.{List, []}
+use Prim.Native.Nat.{ℕ, zero, suc, _≤_, _<_}
+use native.Mathlib.Omega.{arith}
+use lib.Dec.{T, eqb}
+use lib.ListN.{length, getD, set, length-set}
+use lib.Seq.{getD-set-same}
+use borrow.Author.Tests.{eq-eqb, ne-eqb}
+use Rattle.table.specs.Lists.{member}
+use Rattle.table.specs.Table.{records, nextOf, rootOf, follow, chain}
+use Rattle.table.specs.Refusal.{badChain, isEmpty, named, badTree, fault}
+use Rattle.table.specs.Steps.{Shaped, Listed, Rooted, Filled, notOnce, notReached}
+use Rattle.table.proofs.Lists.{T-true, T-false}
+use Rattle.table.proofs.Chain.{follow-none}
+use Rattle.table.proofs.Sound.{inside}
+
+-- With a root, the tree is not empty.
+pub tree-tests : (t : List ℕ) → (rootOf t ≡ 0 → ⊥) → badTree t ≡ not (member (rootOf t) (chain t)) || ((not (eqb (named t (rootOf t)) 0) || notOnce t) || notReached t)
+unfolding badTree isEmpty notOnce notReached
+tree-tests t h =
+    rw (ne-eqb (rootOf t) 0 h, and-false) (ap (λ (b : Bool). not (member (rootOf t) (chain t)) || b) (sym (or-assoc (not (eqb (named t (rootOf t)) 0)) (notOnce t) (notReached t))))
+
+starts : (n : ℕ) (t : List ℕ) (k : ℕ) → 0 < n → length (follow n t k) ≡ 0 → k ≡ 0
+unfolding follow
+starts zero t k h e = absurd (omega arith)
+starts (suc n) t zero h e = refl
+starts (suc n) t (suc k) h e = absurd (omega arith)
+
+-- Without one, it is empty if the chain is.
+pub tree-empty : (t : List ℕ) → Shaped t → rootOf t ≡ 0 → length (chain t) ≡ 0 → (badTree t ≡ false) × (chain t ≡ [])
+unfolding badTree isEmpty chain
+tree-empty t s e l =
+    let n = starts (records t) t (nextOf t 0) (s .head) l in
+    (rw (eq-eqb (nextOf t 0) 0 n, eq-eqb (rootOf t) 0 e), rw n (follow-none (records t) t))
+
+pub tree-headless : (t : List ℕ) → badChain t ≡ false → rootOf t ≡ 0 → (length (chain t) ≡ 0 → ⊥) → badTree t ≡ true
+unfolding badTree isEmpty
+tree-headless t b e l =
+    rw (ne-eqb (nextOf t 0) 0 (λ n. l (ended n)), T-false (member (rootOf t) (chain t)) .0 (λ m. omega (arith, inside t b (rootOf t) m)))
+  where
+    ended : nextOf t 0 ≡ 0 → length (chain t) ≡ 0
+    ended n = unfold chain in (rw (n, follow-none))
+
+-- Causes 1 to 5 do not hold.
+pub accepted : (t : List ℕ) → Rooted t → notReached t ≡ false → fault t ≡ 0
+unfolding fault
+accepted t r e =
+    rw
+    (r .shaped .whole,
+    r .shaped .zeros,
+    r .sound,
+    r .linked,
+    tree-tests t (λ z. omega (arith, inside t (r .sound) (rootOf t) (r .root))),
+    T-true (member (rootOf t) (chain t)) .0 (r .root),
+    eq-eqb (named t (rootOf t)) 0 (r .unnamed),
+    r .once,
+    e)
