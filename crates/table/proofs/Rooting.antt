@@ -1,18 +1,18 @@
 -- Cause 5 from the tests of the code. Rests on Lists, Chain and Sound.
 use mathlib.Core.Path.{_≡_, refl, sym, ap, _∙_}
-use mathlib.Core.Bool.{Bool, true, false, not, cond, _&&_, _||_, or-assoc, or-true, and-false}
+use mathlib.Core.Bool.{Bool, true, false, not, cond, _&&_, _||_, or-assoc, or-true, and-false, Bool·not-not}
 use mathlib.Core.List.{List, []}
 use Prim.Native.Nat.{ℕ, zero, suc, _≤_, _<_}
 use native.Mathlib.Omega.{arith}
 use lib.Dec.{T, eqb}
 use lib.ListN.{length, getD, set, length-set}
 use lib.Seq.{getD-set-same}
-use borrow.Author.Tests.{eq-eqb, ne-eqb}
+use borrow.Author.Tests.{eq-eqb, ne-eqb, eqb-true, not-false}
 use Rattle.table.specs.Lists.{member}
 use Rattle.table.specs.Table.{records, nextOf, rootOf, follow, chain}
-use Rattle.table.specs.Refusal.{badChain, isEmpty, named, badTree, fault}
-use Rattle.table.specs.Steps.{Shaped, Listed, Rooted, Filled, notOnce, notReached}
-use Rattle.table.proofs.Lists.{T-true, T-false}
+use Rattle.table.specs.Refusal.{badChain, badLinks, isEmpty, named, badTree, fault}
+use Rattle.table.specs.Steps.{Shaped, Marked, Rooted, Filled, Grown, notOnce, notReached}
+use Rattle.table.proofs.Lists.{T-true, T-false, or-false}
 use Rattle.table.proofs.Chain.{follow-none}
 use Rattle.table.proofs.Sound.{inside}
 
@@ -57,3 +57,48 @@ accepted t r e =
     eq-eqb (named t (rootOf t)) 0 (r .unnamed),
     r .once,
     e)
+
+pub grown-bad : (t sizes : List ℕ) → badTree t ≡ true → Grown t 5 sizes
+grown-bad t sizes e = record { cause = rw e; filled = λ z. absurd (omega arith) }
+
+pub grown-good : (t sizes : List ℕ) → badTree t ≡ false → Filled t (chain t) sizes → Grown t 0 sizes
+grown-good t sizes e f = record { cause = rw e; filled = λ z. f }
+
+pub marked-by : (t mark : List ℕ) (k : ℕ) (r : Bool) → Marked t mark → r ≡ not (eqb (getD mark k 0) 0) → r ≡ member k (chain t)
+marked-by t mark k r m e = e ∙ rw (m .marks k) (go (member k (chain t)))
+  where
+    go : (b : Bool) → not (eqb (cond b 1 0) 0) ≡ b
+    go true = refl
+    go false = refl
+
+-- The sizes before they are filled.
+pub unfilled : (t sizes : List ℕ) → length sizes ≡ 4097 → Filled t [] (set sizes 0 0)
+unfolding member
+unfilled t sizes l = record { long = simp length-set l; sized = λ k h. absurd h; none = getD-set-same sizes 0 0 0 (omega arith) }
+
+-- With a root other than zero.
+module _ (t : List ℕ) (root : ℕ) (e : root ≡ rootOf t) (some : root ≡ 0 → ⊥) where
+  tests : badTree t ≡ not (member root (chain t)) || ((not (eqb (named t root) 0) || notOnce t) || notReached t)
+  tests = rw e (tree-tests t (λ z. some (e ∙ z)))
+
+  pub off-chain : member root (chain t) ≡ false → badTree t ≡ true
+  off-chain m = rw (tests, m)
+
+  pub ill-named : not (eqb (named t root) 0) || notOnce t ≡ true → badTree t ≡ true
+  ill-named n = rw (tests, n, or-true)
+
+  module _ (m : member root (chain t) ≡ true) (n : not (eqb (named t root) 0) || notOnce t ≡ false) where
+    pub reached-or-bad : (r : Bool) → r ≡ not (notReached t) → badTree t ≡ not r
+    reached-or-bad r d = rw (tests, m, n, d, Bool·not-not)
+
+    pub rooted : Shaped t → badChain t ≡ false → badLinks t ≡ false → Rooted t
+    rooted s c l =
+        let (u, o) = or-false (not (eqb (named t root) 0)) (notOnce t) .0 n in
+        record {
+          shaped = s;
+          sound = c;
+          linked = l;
+          root = rw (← e) (T-true (member root (chain t)) .1 m);
+          unnamed = rw (← e) (eqb-true (named t root) 0 (not-false _ u));
+          once = o
+        }

@@ -9,7 +9,7 @@ use Rattle.table.specs.declared.Reading.{Reading}
 use Rattle.table.specs.Lists.{any, member, count}
 use Rattle.table.specs.Table.{records, chain, leftOf, rightOf, rootOf}
 use Rattle.table.specs.Tree.{nodes, tree, treeAt, size}
-use Rattle.table.specs.Refusal.{badLength, badHead, badChain, badLinks, links, named}
+use Rattle.table.specs.Refusal.{badLength, badHead, badChain, badLinks, badTree, links, named}
 
 -- Not refused with 1 or 2: there is a head, and no more records than a list of 4,097 has room for.
 pub record Shaped (t : List ℕ) : Type 0 where
@@ -81,3 +81,8 @@ pub record Filled (t : List ℕ) (ks sizes : List ℕ) : Type 0 where
   pub long : length sizes ≡ 4097
   pub sized : (k : ℕ) → T (member k ks) → getD sizes k 0 ≡ size (treeAt t k)
   pub none : getD sizes 0 0 ≡ 0
+
+-- What the tests of cause 5 answer.
+pub record Grown (t : List ℕ) (r : ℕ) (sizes : List ℕ) : Type 0 where
+  pub cause : r ≡ cond (badTree t) 5 0
+  pub filled : r ≡ 0 → Filled t (chain t) sizes

@@ -16,10 +16,9 @@ use crate::reach::reaches;
 ghost use mathlib.Core.Path.{_≡_};
 ghost use mathlib.Core.Bool.{cond, false};
 ghost use lib.ListN.{length};
-ghost use Rattle.table.specs.Table.{chain as chainOf};
-ghost use Rattle.table.specs.Refusal.{badLength, badHead, badLinks, badTree, refusal};
+ghost use Rattle.table.specs.Refusal.{badLength, badHead, badLinks, refusal};
 ghost use Rattle.table.specs.Reading.{ReadOf};
-ghost use Rattle.table.specs.Steps.{Listed, Marked, Filled};
+ghost use Rattle.table.specs.Steps.{Listed, Marked, Grown};
 
 // A refusal, or 0 and the number of nodes.
 pub struct Reading {
@@ -56,8 +55,7 @@ fn grow(table: &[u8], chain: &[u16], nodes: usize, mark: &[u16], sizes: &mut [u1
     requires { ⌜ Marked (now table) (now mark) ⌝ }
     requires { ⌜ badLinks (now table) ≡ false ⌝ }
     requires { ⌜ length (now sizes) ≡ 4097 ⌝ }
-    ensures { λ r. ⌜ r ≡ cond (badTree (now (table .entry))) 5 0 ⌝ }
-    ensures { λ r. ⌜ (r ≡ 0 → Filled (now (table .entry)) (chainOf (now (table .entry))) (now (sizes .exit))) ⌝ }
+    ensures { λ r. ⌜ Grown (now (table .entry)) r (now (sizes .exit)) ⌝ }
 {
     sizes[0] = 0;
     let root = left(table, 0);
