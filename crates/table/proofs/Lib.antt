@@ -11,3 +11,4 @@ pub mod Order
 pub mod Reached
 pub mod Sizes
 pub mod Rooting
+pub mod Answer

@@ -128,7 +128,7 @@ module _ (t order : List ℕ) (r : Rooted t) where
     queue = rw (take-suc-set order 0 root (omega arith), e) (queue-start t r);
     ahead = omega arith;
     room = omega arith;
-    long = simp length-set l
+    long = simp length-set l;
   }
 
   module _ (head tail : ℕ) (s : Spreading t order head tail) (lt : head < tail) where
@@ -147,12 +147,13 @@ module _ (t order : List ℕ) (r : Rooted t) where
 
       pub spread-room : tail + length (present (a ∷ [])) + length (present (b ∷ [])) < 4097
       spread-room =
-          omega
-          (arith,
-          first-tail,
-          queue-length t r (head + 1) _ step,
-          length-append (take tail order ++ present (a ∷ [])) (present (b ∷ [])),
-          length-append (take tail order) (present (a ∷ [])))
+          omega (
+            arith,
+            first-tail,
+            queue-length t r (head + 1) _ step,
+            length-append (take tail order ++ present (a ∷ [])) (present (b ∷ [])),
+            length-append (take tail order) (present (a ∷ [])),
+          )
 
       pub spread-step : (mid after : List ℕ) (m n : ℕ) → m ≡ tail + length (present (a ∷ [])) → take m mid ≡ take tail order ++ present (a ∷ []) →
           n ≡ m + length (present (b ∷ [])) → take n after ≡ take m mid ++ present (b ∷ []) → length after ≡ 4097 → Spreading t after (head + 1) n

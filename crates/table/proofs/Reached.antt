@@ -165,5 +165,5 @@ module _ (t order : List ℕ) (m n : ℕ) (r : Rooted t) (long : length order �
     filled-chain sizes f = record {
       long = f .long;
       sized = λ k h. f .sized k (member-count k (take m order) .1 (omega (arith, member-count k (chain t) .0 h, within-back (take m order) (chain t) (q .1 .within) (omega (arith, as-long)) k)));
-      none = f .none
+      none = f .none;
     }

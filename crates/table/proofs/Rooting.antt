@@ -47,16 +47,17 @@ tree-headless t b e l =
 pub accepted : (t : List ℕ) → Rooted t → notReached t ≡ false → fault t ≡ 0
 unfolding fault
 accepted t r e =
-    rw
-    (r .shaped .whole,
-    r .shaped .zeros,
-    r .sound,
-    r .linked,
-    tree-tests t (λ z. omega (arith, inside t (r .sound) (rootOf t) (r .root))),
-    T-true (member (rootOf t) (chain t)) .0 (r .root),
-    eq-eqb (named t (rootOf t)) 0 (r .unnamed),
-    r .once,
-    e)
+    rw (
+      r .shaped .whole,
+      r .shaped .zeros,
+      r .sound,
+      r .linked,
+      tree-tests t (λ z. omega (arith, inside t (r .sound) (rootOf t) (r .root))),
+      T-true (member (rootOf t) (chain t)) .0 (r .root),
+      eq-eqb (named t (rootOf t)) 0 (r .unnamed),
+      r .once,
+      e,
+    )
 
 pub grown-bad : (t sizes : List ℕ) → badTree t ≡ true → Grown t 5 sizes
 grown-bad t sizes e = record { cause = rw e; filled = λ z. absurd (omega arith) }
@@ -100,5 +101,5 @@ module _ (t : List ℕ) (root : ℕ) (e : root ≡ rootOf t) (some : root ≡ 0 
           linked = l;
           root = rw (← e) (T-true (member root (chain t)) .1 m);
           unnamed = rw (← e) (eqb-true (named t root) 0 (not-false _ u));
-          once = o
+          once = o;
         }

@@ -52,8 +52,8 @@ module _ (t : List ℕ) (n : ℕ) (list : List ℕ) (l : Listed t n list) where
   scan-none f h =
       any-false f (chain t) .1
       (λ k m. let p = place k (chain t) m in
-          let s : p .0 < n = omega (arith, p .1, l .nodes) in
-          ap f (sym (p .2) ∙ same-place (p .0) s) ∙ h (p .0) s)
+      let s : p .0 < n = omega (arith, p .1, l .nodes) in
+      ap f (sym (p .2) ∙ same-place (p .0) s) ∙ h (p .0) s)
 
   -- A link that is not zero is stray if it is not marked.
   stray-mark : (mark : List ℕ) → Marked t mark → (k : ℕ) → not (eqb k 0) && eqb (getD mark k 0) 0 ≡ stray t k

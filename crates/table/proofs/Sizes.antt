@@ -60,20 +60,21 @@ module _ (t order : List ℕ) (n : ℕ) (ok : fault t ≡ 0) (le : n ≤ length 
           (1 + getD sizes a 0 + getD sizes b 0 ≡ size (treeAt t (getD order i 0))) × (1 + getD sizes a 0 + getD sizes b 0 < 4097)
       fill-sum a b ea eb =
           rw (ea, eb)
-          (omega
-          (arith,
-          child-size left,
-          child-size right,
-          size-node t ok (getD order i 0) chained,
-          size-below t ok (getD order i 0) chained,
-          chain-length t ok,
-          records-bounds t ok))
+          (omega (
+            arith,
+            child-size left,
+            child-size right,
+            size-node t ok (getD order i 0) chained,
+            size-below t ok (getD order i 0) chained,
+            chain-length t ok,
+            records-bounds t ok,
+          ))
 
       pub fill-step : (v : ℕ) → v ≡ size (treeAt t (getD order i 0)) → Filled t (drop i (take n order)) (set sizes (getD order i 0) v)
       fill-step v e = record {
         long = simp length-set (f .long);
         sized = λ k m. go k (ℕ-discrete k (getD order i 0)) (member-cons k (getD (take n order) i 0) (drop (suc i) (take n order)) .0 (rw (drop-cons (take n order) i 0 (omega (arith, whole))) at m));
-        none = getD-set-other sizes (getD order i 0) 0 v 0 (λ z. omega (arith, chain-within t ok (getD order i 0) chained)) ∙ f .none
+        none = getD-set-other sizes (getD order i 0) 0 v 0 (λ z. omega (arith, chain-within t ok (getD order i 0) chained)) ∙ f .none;
       }
         where
           go : (k : ℕ) → Dec (k ≡ getD order i 0) → (k ≡ getD (take n order) i 0) ⊎ T (member k (drop (suc i) (take n order))) → getD (set sizes (getD order i 0) v) k 0 ≡ size (treeAt t k)

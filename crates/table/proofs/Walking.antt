@@ -87,9 +87,9 @@ module _ (t : List ℕ) (i at : ℕ) (list mark : List ℕ) (w : Walk t i at lis
             sound = sound;
             nodes = rw ended (sym (length-take-le i list long));
             long = long;
-            listed = sym ended
+            listed = sym ended;
           };
-      marked = λ r. record { long = w .mark-long; marks = rw ended (w .marks) }
+      marked = λ r. record { long = w .mark-long; marks = rw ended (w .marks) };
     }
 
   module _ (on : at ≡ 0 → ⊥) where
@@ -146,12 +146,13 @@ module _ (t : List ℕ) (i at : ℕ) (list mark : List ℕ) (w : Walk t i at lis
         within = rw taken within;
         marks = rw taken marks;
         room =
-            omega
-            (arith,
-            fewer (records t) (take i list ++ (at ∷ [])) (shaped .head) once within,
-            length-append (take i list) (at ∷ []),
-            length-take-le i list (omega (arith, w .room, w .list-long, shaped .room)));
+            omega (
+              arith,
+              fewer (records t) (take i list ++ (at ∷ [])) (shaped .head) once within,
+              length-append (take i list) (at ∷ []),
+              length-take-le i list (omega (arith, w .room, w .list-long, shaped .room)),
+            );
         at-small = s;
         list-long = simp length-set (w .list-long);
-        mark-long = simp length-set (w .mark-long)
+        mark-long = simp length-set (w .mark-long);
       }

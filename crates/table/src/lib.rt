@@ -1,18 +1,18 @@
 // Reading a table of records: the refusals, the chain and the sizes of the subtrees.
-pub mod words;
-mod walk;
 mod links;
 mod naming;
 mod reach;
+mod walk;
+pub mod words;
 
+use crate::links::marked;
+use crate::links::strays;
+use crate::naming::misnamed;
+use crate::reach::reaches;
+use crate::walk::walk;
 use crate::words::left;
 use crate::words::right;
 use crate::words::tag;
-use crate::walk::walk;
-use crate::links::strays;
-use crate::links::marked;
-use crate::naming::misnamed;
-use crate::reach::reaches;
 ghost use mathlib.Core.Path.{_≡_};
 ghost use mathlib.Core.Bool.{cond, false};
 ghost use lib.ListN.{length};
@@ -84,7 +84,10 @@ pub fn read(table: &[u8], places: usize, chain: &mut [u16], sizes: &mut [u16]) -
 {
     let unfit = shape(table);
     if unfit != 0 {
-        return Reading { refusal: unfit, nodes: 0 };
+        return Reading {
+            refusal: unfit,
+            nodes: 0,
+        };
     }
     let mut mark = [0u16; 4097];
     let walked = walk(table, chain, &mut mark);
@@ -93,13 +96,22 @@ pub fn read(table: &[u8], places: usize, chain: &mut [u16], sizes: &mut [u16]) -
     }
     let nodes = walked.nodes;
     if strays(table, chain, nodes, &mark) {
-        return Reading { refusal: 4, nodes: 0 };
+        return Reading {
+            refusal: 4,
+            nodes: 0,
+        };
     }
     if grow(table, chain, nodes, &mark, sizes) != 0 {
-        return Reading { refusal: 5, nodes: 0 };
+        return Reading {
+            refusal: 5,
+            nodes: 0,
+        };
     }
     if places < 2 * (table.len() / 8) {
-        return Reading { refusal: 6, nodes: 0 };
+        return Reading {
+            refusal: 6,
+            nodes: 0,
+        };
     }
     Reading { refusal: 0, nodes }
 }

@@ -18,10 +18,16 @@ pub fn walk(table: &[u8], chain: &mut [u16], mark: &mut [u16]) -> Reading
     let mut nodes = 0;
     while at != 0 {
         if records <= at {
-            return Reading { refusal: 3, nodes: 0 };
+            return Reading {
+                refusal: 3,
+                nodes: 0,
+            };
         }
         if mark[at] != 0 {
-            return Reading { refusal: 3, nodes: 0 };
+            return Reading {
+                refusal: 3,
+                nodes: 0,
+            };
         }
         mark[at] = 1;
         chain[nodes] = at as u16;

@@ -90,10 +90,11 @@ loop-again c =
     let k = q .before .before .before .before .before in
     let l = k .before .before .before .before .before in
     let p = l .before .before .before .before .pre in
-    let h = k .before .before .before .before .loop-test .taken in
-    (omega arith,
-    rw (links-more _ _ _ (p .0) _ h, ← (k .before .left .ensures .0), ← (q .before .right .ensures .0))
-    (counts-more _ _ _ _ (ticked k) (link-few _ _ _ (p .0) (p .1 .0) _ right _ h (q .before .right .ensures .0)) (q .tick2 .ensures)))
+    let h = k .before .before .before .before .loop-test .taken in (
+      omega arith,
+      rw (links-more _ _ _ (p .0) _ h, ← (k .before .left .ensures .0), ← (q .before .right .ensures .0))
+          (counts-more _ _ _ _ (ticked k) (link-few _ _ _ (p .0) (p .1 .0) _ right _ h (q .before .right .ensures .0)) (q .tick2 .ensures)),
+    )
 
 -- src/naming.rt:22:1
 same-length : tie.Need-same-length Inv-loop μ-loop

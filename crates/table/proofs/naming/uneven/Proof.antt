@@ -71,9 +71,10 @@ loop-less c = omega arith
 -- src/naming.rt:50:5
 loop-again : tie.Need-loop-again Inv-loop μ-loop
 loop-again c =
-    let s = c .before .before .before .before .before .before .before .before in
-    (omega arith,
-    below-more _ _ (c .before .before .before .before .loop .inv .1) (odd-by _ _ _ _ _ _ (s .pre .1 .0) (s .pre .1 .1) (c .before .odd .ensures) (c .if1 .left)))
+    let s = c .before .before .before .before .before .before .before .before in (
+      omega arith,
+      below-more _ _ (c .before .before .before .before .loop .inv .1) (odd-by _ _ _ _ _ _ (s .pre .1 .0) (s .pre .1 .1) (c .before .odd .ensures) (c .if1 .left)),
+    )
 
 -- src/naming.rt:43:1
 returns-2 : tie.Need-returns-2 Inv-loop μ-loop

@@ -132,9 +132,10 @@ loop-less c = omega arith
 loop-again : tie.Need-loop-again Inv-loop μ-loop
 loop-again c =
     let l = c .before .before .before .before .before .before in
-    let s = l .before .before .before .before in
-    (omega arith,
-    fill-step _ _ _ (s .pre .0) (s .pre .1 .0 .0) (s .pre .1 .0 .1) _ (omega arith) _ (fill-back _ _ _ _ (c .before .before .before .before .before .loop-test .taken) (l .loop .inv .1)) _ (summed c .0))
+    let s = l .before .before .before .before in (
+      omega arith,
+      fill-step _ _ _ (s .pre .0) (s .pre .1 .0 .0) (s .pre .1 .0 .1) _ (omega arith) _ (fill-back _ _ _ _ (c .before .before .before .before .before .loop-test .taken) (l .loop .inv .1)) _ (summed c .0),
+    )
 
 -- src/reach.rt:46:1
 same-length : tie.Need-same-length Inv-loop μ-loop

@@ -40,9 +40,10 @@ measure-requires : tie.Need-measure-requires
 measure-requires c κs =
     let s = c .before .before .before .before .before .before .before .before in
     let a = c .before .before .before .before .spread in
-    let e = c .before .before .if1 .left in
-    (accepted _ (s .pre .0) (none-missed _ (a .last .1 .0) _ _ (s .pre .0) (a .kept .1 .0) (a .ensures) (s .pre .1 .0) e),
-    ((omega (arith, a .kept .1 .0, a .ensures .0), subst (λ (m : ℕ). Queue (s .args .table .now) m (take m (a .last .1 .0))) e (a .ensures .1)), s .pre .1 .1))
+    let e = c .before .before .if1 .left in (
+      accepted _ (s .pre .0) (none-missed _ (a .last .1 .0) _ _ (s .pre .0) (a .kept .1 .0) (a .ensures) (s .pre .1 .0) e),
+      ((omega (arith, a .kept .1 .0, a .ensures .0), subst (λ (m : ℕ). Queue (s .args .table .now) m (take m (a .last .1 .0))) e (a .ensures .1)), s .pre .1 .1),
+    )
 
 -- src/reach.rt:63:1
 same-length : tie.Need-same-length
@@ -53,9 +54,10 @@ returns-2 : tie.Need-returns-2
 returns-2 c =
     let s = c .before .before .before .before .before .before .before .before .before .before .before in
     let a = c .before .before .before .before .before .before .before .spread in
-    let e = c .before .before .before .before .before .if1 .left in
-    (ap not (sym (none-missed _ (a .last .1 .0) _ _ (s .pre .0) (a .kept .1 .0) (a .ensures) (s .pre .1 .0) e)),
-    λ z. filled-chain _ (a .last .1 .0) _ _ (s .pre .0) (a .kept .1 .0) (a .ensures) (s .pre .1 .0) e _ (rw (← e) at (c .before .before .measure .ensures)))
+    let e = c .before .before .before .before .before .if1 .left in (
+      ap not (sym (none-missed _ (a .last .1 .0) _ _ (s .pre .0) (a .kept .1 .0) (a .ensures) (s .pre .1 .0) e)),
+      λ z. filled-chain _ (a .last .1 .0) _ _ (s .pre .0) (a .kept .1 .0) (a .ensures) (s .pre .1 .0) e _ (rw (← e) at (c .before .before .measure .ensures)),
+    )
 
 pub reaches-spec : {M : Type 1} → statement M
 reaches-spec =
