@@ -1,26 +1,23 @@
--- The chain and the tree of any table: what they hold, and when the number of steps is not felt. Rests on Lists.
-use mathlib.Core.Path.{_≡_, refl, sym, ap, ap₂, subst}
+-- The chain, the tree and the links of any table: what they hold, and when the number of steps is not felt. Rests on Lists.
+use mathlib.Core.Path.{_≡_, refl, sym, ap}
 use mathlib.Core.Logic.{_⊎_, inl, inr, ⊎-elim, ⊎-map}
-use mathlib.Core.Bool.{Bool, true, false, _||_}
 use mathlib.Core.List.{List, [], _∷_, _++_}
 use Prim.Native.Nat.{ℕ, zero, suc, _+_, _≤_, _<_}
 use native.Mathlib.Nat.{suc-add}
 use native.Mathlib.Omega.{arith}
-use lib.Dec.{T, eqb, eqb·zero-suc}
+use lib.Dec.{T, eqb·zero-suc, eqb·suc-zero}
 use lib.ListN.{length, length-append}
 use Rattle.table.specs.Lists.{member, count}
-use Rattle.table.specs.Table.{Side, left, right, nextOf, leftOf, rightOf, linkOf, follow}
+use Rattle.table.specs.Table.{Side, left, right, nextOf, leftOf, rightOf, linkOf, follow, chain}
 use Rattle.table.specs.Tree.{Tree, none, node, size, nodes, descend}
 use Rattle.table.specs.Refusal.{links}
-use Rattle.table.proofs.Lists.{same, Alike, alike, same-one, count-append, member-cons, member-count, member-append, or-T, Within, within-cons, links-within}
+use Rattle.table.proofs.Lists.{or-T, member-cons, member-append, same, same-one, Alike, alike, count-append, member-count, within-cons, within-one, links-within}
 
--- The head is not on the chain.
-pub follow-zero : (n : ℕ) (t : List ℕ) (k : ℕ) → count 0 (follow n t k) ≡ 0
-unfolding follow count
-follow-zero zero t k = refl
-follow-zero (suc n) t zero = refl
-follow-zero (suc n) t (suc k) = rw eqb·zero-suc (omega (arith, follow-zero n t (nextOf t (suc k))))
+-- k is on the chain.
+abbrev pub Chained : List ℕ → ℕ → Type 0
+Chained t k = T (member k (chain t))
 
+-- Zero is none, and on no list.
 pub follow-none : (n : ℕ) (t : List ℕ) → follow n t 0 ≡ []
 unfolding follow
 follow-none zero t = refl
@@ -31,46 +28,37 @@ unfolding descend
 descend-none zero t = refl
 descend-none (suc n) t = refl
 
--- A chain shorter than its steps has ended: more steps add nothing.
-pub follow-more : (m n : ℕ) (t : List ℕ) (k : ℕ) → length (follow m t k) < m → follow (m + n) t k ≡ follow m t k
-unfolding follow
-follow-more zero n t k h = absurd (omega arith)
-follow-more (suc m) n t zero h = rw suc-add refl
-follow-more (suc m) n t (suc k) h = rw suc-add (ap (λ (l : List ℕ). suc k ∷ l) (follow-more m n t (nextOf t (suc k)) (omega arith)))
-
-pub length-nodes : (a : Tree) → length (nodes a) ≡ size a
-unfolding nodes size
-length-nodes none = refl
-length-nodes (node k a b) = omega (arith, length-append (nodes a) (nodes b), length-nodes a, length-nodes b)
+pub follow-zero : (n : ℕ) (t : List ℕ) (k : ℕ) → count 0 (follow n t k) ≡ 0
+unfolding follow count
+follow-zero zero t k = refl
+follow-zero (suc n) t zero = refl
+follow-zero (suc n) t (suc k) = rw eqb·zero-suc (omega (arith, follow-zero n t (nextOf t (suc k))))
 
 pub nodes-zero : (n : ℕ) (t : List ℕ) (k : ℕ) → count 0 (nodes (descend n t k)) ≡ 0
 unfolding descend nodes count
 nodes-zero zero t k = refl
 nodes-zero (suc n) t zero = refl
-nodes-zero (suc n) t (suc k) =
-    rw (eqb·zero-suc, count-append) (omega (arith, nodes-zero n t (leftOf t (suc k)), nodes-zero n t (rightOf t (suc k))))
+nodes-zero (suc n) t (suc k) = rw (eqb·zero-suc, count-append) (omega (arith, nodes-zero n t (leftOf t (suc k)), nodes-zero n t (rightOf t (suc k))))
 
-pub links-append : (t a b : List ℕ) → links t (a ++ b) ≡ links t a ++ links t b
-unfolding links
-links-append t [] b = refl
-links-append t (k ∷ ks) b = rw (links-append t ks b)
+-- A chain shorter than its steps has ended, and a tree with fewer nodes than levels: more of them add nothing.
+pub follow-more : (m n : ℕ) (t : List ℕ) (k : ℕ) → length (follow m t k) < m → follow (m + n) t k ≡ follow m t k
+unfolding follow
+follow-more zero n t k h = absurd (omega arith)
+follow-more (suc m) n t zero h = rw suc-add
+follow-more (suc m) n t (suc k) h = rw suc-add (ap (λ (l : List ℕ). suc k ∷ l) (follow-more m n t (nextOf t (suc k)) (omega arith)))
 
--- The nodes of a tree one level deeper: its root and what its nodes name.
-pub nodes-deeper : (n : ℕ) (t : List ℕ) (k x : ℕ) → count x (nodes (descend (suc n) t k)) ≤ same x k + count x (links t (nodes (descend n t k)))
-unfolding descend nodes count links
-nodes-deeper zero t zero x = omega arith
-nodes-deeper zero t (suc k) x = omega arith
-nodes-deeper (suc n) t zero x = omega arith
-nodes-deeper (suc n) t (suc k) x = simp (count-append, links-append) (omega (arith, nodes-deeper n t (leftOf t (suc k)) x, nodes-deeper n t (rightOf t (suc k)) x))
-
--- A tree with fewer nodes than levels allowed: one more level adds nothing.
 pub descend-more : (n : ℕ) (t : List ℕ) (k : ℕ) → size (descend n t k) < n → descend (suc n) t k ≡ descend n t k
 unfolding descend size
 descend-more zero t k h = absurd (omega arith)
 descend-more (suc n) t zero h = refl
 descend-more (suc n) t (suc k) h = rw (descend-more n t (leftOf t (suc k)) (omega arith), descend-more n t (rightOf t (suc k)) (omega arith))
 
--- A child's tree is smaller.
+-- Nodes and sizes.
+pub length-nodes : (a : Tree) → length (nodes a) ≡ size a
+unfolding nodes size
+length-nodes none = refl
+length-nodes (node k a b) = omega (arith, length-append (nodes a) (nodes b), length-nodes a, length-nodes b)
+
 pub size-link : (n : ℕ) (t : List ℕ) (k : ℕ) (s : Side) → 0 < k → size (descend n t (linkOf t s k)) < size (descend (suc n) t k)
 unfolding descend size
 size-link n t zero s h = absurd (omega arith)
@@ -91,11 +79,20 @@ reached P t f (suc n) (suc r) p x h =
     ⊎-elim (λ (e : x ≡ suc r). rw e p) (⊎-elim (reached P t f n (leftOf t (suc r)) (f (suc r) left (omega arith) p) x) (reached P t f n (rightOf t (suc r)) (f (suc r) right (omega arith) p) x))
     (nodes-cases x (suc r) (descend n t (leftOf t (suc r))) (descend n t (rightOf t (suc r))) h)
 
-alone : (k : ℕ) (ks : List ℕ) → T (member k ks) → Within (k ∷ []) ks
-unfolding count
-alone k ks h = within-cons k [] ks (λ n. omega arith) (omega (arith, member-count k ks .0 h))
+pub links-append : (t a b : List ℕ) → links t (a ++ b) ≡ links t a ++ links t b
+unfolding links
+links-append t [] b = refl
+links-append t (k ∷ ks) b = rw (links-append t ks b)
 
--- What is named is named by someone.
+-- The nodes of the tree one level deeper are its root and what its nodes name.
+pub nodes-deeper : (n : ℕ) (t : List ℕ) (k x : ℕ) → count (suc x) (nodes (descend (suc n) t k)) ≡ same (suc x) k + count (suc x) (links t (nodes (descend n t k)))
+unfolding descend nodes count links
+nodes-deeper zero t zero x = rw eqb·suc-zero
+nodes-deeper zero t (suc k) x = refl
+nodes-deeper (suc n) t zero x = rw eqb·suc-zero
+nodes-deeper (suc n) t (suc k) x = simp (count-append, links-append) (omega (arith, nodes-deeper n t (leftOf t (suc k)) x, nodes-deeper n t (rightOf t (suc k)) x))
+
+-- Who names x: a record of the list, if it is counted among their links; one record, on one side, if it is counted at most once.
 pub namer : (t : List ℕ) (x : ℕ) (ks : List ℕ) → 1 ≤ count x (links t ks) → (p : ℕ) × (s : Side) × T (member p ks) × (linkOf t s p ≡ x)
 unfolding links count
 namer t x [] h = absurd (omega arith)
@@ -125,13 +122,11 @@ times-side t x p right right d e h = refl
 
 times-within : (t : List ℕ) (x p : ℕ) (ks : List ℕ) → T (member p ks) → times t x p ≤ count x (links t ks)
 unfolding links count times
-times-within t x p ks h = omega (arith, links-within t x (p ∷ []) ks (alone p ks h))
+times-within t x p ks h = omega (arith, links-within t x (p ∷ []) ks (within-one p ks h))
 
--- A link of a record of the list is counted.
 pub names : (t : List ℕ) (x p : ℕ) (s : Side) (ks : List ℕ) → T (member p ks) → x ≡ linkOf t s p → 1 ≤ count x (links t ks)
 names t x p s ks h e = omega (arith, times-one t x p s e, times-within t x p ks h)
 
--- What is counted at most once is named by one record, on one side.
 pub names-once : (t : List ℕ) (x p q : ℕ) (s r : Side) (ks : List ℕ) → T (member p ks) → T (member q ks) → x ≡ linkOf t s p → x ≡ linkOf t r q → count x (links t ks) ≤ 1 → (p ≡ q) × (s ≡ r)
 unfolding links count times
 names-once t x p q s r ks hp hq d e h = go (alike p q)
@@ -139,4 +134,4 @@ names-once t x p q s r ks hp hq d e h = go (alike p q)
     go : Alike p q → (p ≡ q) × (s ≡ r)
     go (inl i) = (i .0, times-side t x p s r d (rw (i .0) e) (omega (arith, times-within t x p ks hp)))
     go (inr i) =
-        absurd (omega (arith, times-one t x p s d, times-one t x q r e, links-within t x (p ∷ q ∷ []) ks (within-cons p (q ∷ []) ks (alone q ks hq) (omega (arith, member-count p ks .0 hp)))))
+        absurd (omega (arith, times-one t x p s d, times-one t x q r e, links-within t x (p ∷ q ∷ []) ks (within-cons p (q ∷ []) ks (within-one q ks hq) (omega (arith, member-count p ks .0 hp)))))

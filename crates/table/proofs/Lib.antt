@@ -1,6 +1,6 @@
 pub mod Lists
 pub mod Chain
-pub mod Sound
+pub mod Causes
 pub mod Accepted
 pub mod Form
 pub mod Walking

@@ -1,5 +1,5 @@
--- Laws of the questions about a list of numbers (specs/Lists), and the counting law: a list whose numbers stand in another as often has no greater sum.
--- "T b" says that the test b passes; a list is distinct if `repeats` is false.
+-- Laws of the questions about a list of numbers (specs/Lists), and the counting law: a list that stands within another, as often or more often, has no greater sum.
+-- `T b` says that the test b passes; a list is distinct if `repeats` is false.
 use mathlib.Core.Path.{_≡_, refl, sym, ap, subst}
 use mathlib.Core.Logic.{_↔_, _⊎_, inl, inr, ⊎-elim, ⊎-map}
 use mathlib.Core.Bool.{Bool, true, false, not, _||_, cond, or-assoc}
@@ -13,20 +13,14 @@ use Rattle.table.specs.Lists.{any, member, repeats, count}
 use Rattle.table.specs.Table.{leftOf, rightOf}
 use Rattle.table.specs.Refusal.{links}
 
--- A test that passes is true, one that cannot pass is false.
+-- Tests.
 pub T-true : (b : Bool) → T b ↔ (b ≡ true)
-T-true b = (λ h. go b h, λ e. subst T (sym e) tt)
-  where
-    go : (c : Bool) → T c → c ≡ true
-    go true h = refl
-    go false h = absurd h
+T-true true = (λ h. refl, λ e. tt)
+T-true false = (λ h. absurd h, λ e. subst T (sym e) tt)
 
 pub T-false : (b : Bool) → (T b → ⊥) ↔ (b ≡ false)
-T-false b = (λ h. go b h, λ e h. subst T e h)
-  where
-    go : (c : Bool) → (T c → ⊥) → c ≡ false
-    go true h = absurd (h tt)
-    go false h = refl
+T-false true = (λ h. absurd (h tt), λ e h. subst T e h)
+T-false false = (λ h. refl, λ e h. h)
 
 pub passes : (b : Bool) → not b ≡ false → T b
 passes true e = tt
@@ -77,6 +71,9 @@ sum f (k ∷ ks) = f k + sum f ks
 abbrev pub same : ℕ → ℕ → ℕ
 same k n = cond (eqb k n) 1 0
 
+pub same-one : (k n : ℕ) → k ≡ n → same k n ≡ 1
+same-one k n e = rw (eq-eqb k n e)
+
 abbrev pub Alike : ℕ → ℕ → Type 0
 Alike k n = ((k ≡ n) × (same k n ≡ 1)) ⊎ ((k ≡ n → ⊥) × (same k n ≡ 0))
 
@@ -86,9 +83,6 @@ alike k n = go (eqb k n) refl
     go : (b : Bool) → eqb k n ≡ b → ((k ≡ n) × (_≡_ {A = ℕ} (cond b 1 0) 1)) ⊎ ((k ≡ n → ⊥) × (_≡_ {A = ℕ} (cond b 1 0) 0))
     go true e = inl (eqb-true k n e, refl)
     go false e = inr (eqb-false k n e, refl)
-
-pub same-one : (k n : ℕ) → k ≡ n → same k n ≡ 1
-same-one k n e = rw (eq-eqb k n e)
 
 pub count-sum : (k : ℕ) (ks : List ℕ) → count k ks ≡ sum (same k) ks
 unfolding count sum
@@ -143,11 +137,21 @@ abbrev pub Within : List ℕ → List ℕ → Type 0
 Within ks cs = (k : ℕ) → count k ks ≤ count k cs
 
 pub within : (ks cs : List ℕ) → Distinct ks → ((k : ℕ) → T (member k ks) → T (member k cs)) → Within ks cs
-within ks cs d h k = go (count k ks) refl
+within ks cs d h k =
+    let z : ¬ (count k cs < count k ks) = λ g. omega (arith, repeats-count ks .0 d k, member-count k cs .0 (h k (member-count k ks .1 (omega arith)))) in
+    omega arith
+
+pub within-cons : (k : ℕ) (ks cs : List ℕ) → Within ks cs → count k ks < count k cs → Within (k ∷ ks) cs
+unfolding count
+within-cons k ks cs w h n = go (alike n k)
   where
-    go : (n : ℕ) → count k ks ≡ n → count k ks ≤ count k cs
-    go zero e = omega arith
-    go (suc n) e = omega (arith, repeats-count ks .0 d k, member-count k cs .0 (h k (member-count k ks .1 (omega arith))))
+    go : Alike n k → same n k + count n ks ≤ count n cs
+    go (inl e) = rw (e .0) (omega (arith, same-one k k refl))
+    go (inr e) = omega (arith, w n)
+
+pub within-one : (k : ℕ) (ks : List ℕ) → T (member k ks) → Within (k ∷ []) ks
+unfolding count
+within-one k ks h = within-cons k [] ks (λ n. omega arith) (omega (arith, member-count k ks .0 h))
 
 -- Without one k, the rest.
 rest : (k : ℕ) (cs : List ℕ) → 1 ≤ count k cs → (ds : List ℕ) × ((f : ℕ → ℕ) → sum f cs ≡ f k + sum f ds)
@@ -171,17 +175,9 @@ sum-within f (k ∷ ks) cs w =
 pub length-within : (ks cs : List ℕ) → Within ks cs → length ks ≤ length cs
 length-within ks cs w = omega (arith, length-sum ks, length-sum cs, sum-within (λ k. 1) ks cs w)
 
-pub within-cons : (k : ℕ) (ks cs : List ℕ) → Within ks cs → count k ks < count k cs → Within (k ∷ ks) cs
-unfolding count
-within-cons k ks cs w h n = go (alike n k)
-  where
-    go : Alike n k → same n k + count n ks ≤ count n cs
-    go (inl e) = rw (e .0) (omega (arith, same-one k k refl))
-    go (inr e) = omega (arith, w n)
-
--- Where the lengths agree, each list stands within the other.
+-- Of two lists of one length, each stands within the other if one does.
 pub within-back : (ks cs : List ℕ) → Within ks cs → length cs ≤ length ks → Within cs ks
-within-back ks cs w h k = let less : ¬ (count k ks < count k cs) = λ g. omega (arith, length-within (k ∷ ks) cs (within-cons k ks cs w g)) in omega arith
+within-back ks cs w h k = let z : ¬ (count k ks < count k cs) = λ g. omega (arith, length-within (k ∷ ks) cs (within-cons k ks cs w g)) in omega arith
 
 pub covers : (ks cs : List ℕ) → Distinct ks → ((k : ℕ) → T (member k ks) → T (member k cs)) → length cs ≤ length ks → (k : ℕ) → T (member k cs) → T (member k ks)
 covers ks cs d h l k m = member-count k ks .1 (omega (arith, within-back ks cs (within ks cs d h) l k, member-count k cs .0 m))
@@ -196,14 +192,21 @@ unfolding upto
 length-upto zero = refl
 length-upto (suc n) = ap suc (length-upto n)
 
-count-upto : (k n : ℕ) → k < n → 1 ≤ count k (upto n)
-unfolding upto count
-count-upto k zero h = omega arith
-count-upto k (suc n) h = ⊎-elim (λ (e : (k ≡ n) × (same k n ≡ 1)). omega arith) (λ (e : (k ≡ n → ⊥) × (same k n ≡ 0)). omega (arith, count-upto k n (omega arith))) (alike k n)
+member-upto : (k n : ℕ) → k < n → T (member k (upto n))
+unfolding upto
+member-upto k zero h = absurd (omega arith)
+member-upto k (suc n) h = member-cons k n (upto n) .1 (⊎-map (λ (e : (k ≡ n) × (same k n ≡ 1)). e .0) (λ (e : (k ≡ n → ⊥) × (same k n ≡ 0)). member-upto k n (omega arith)) (alike k n))
 
 -- A distinct list of numbers below n has at most n of them.
 pub length-below : (n : ℕ) (ks : List ℕ) → Distinct ks → ((k : ℕ) → T (member k ks) → k < n) → length ks ≤ n
-length-below n ks d h = omega (arith, length-upto n, length-within ks (upto n) (within ks (upto n) d (λ k m. member-count k (upto n) .1 (count-upto k n (h k m)))))
+length-below n ks d h = omega (arith, length-upto n, length-within ks (upto n) (within ks (upto n) d (λ k m. member-upto k n (h k m))))
+
+-- And of numbers from 1 on, fewer.
+pub length-between : (n : ℕ) (ks : List ℕ) → 1 ≤ n → Distinct ks → ((k : ℕ) → T (member k ks) → (1 ≤ k) × (k < n)) → length ks < n
+unfolding repeats
+length-between n ks s d h =
+    length-below n (0 ∷ ks) (or-false (member 0 ks) (repeats ks) .1 (T-false (member 0 ks) .0 (λ m. omega (arith, h 0 m)), d))
+    (λ k m. ⊎-elim (λ (e : k ≡ 0). omega arith) (λ (g : T (member k ks)). h k g .1) (member-cons k 0 ks .0 m))
 
 -- How often records name x as a child is a sum over the records.
 pub count-links : (t : List ℕ) (x : ℕ) (ks : List ℕ) → count x (links t ks) ≡ sum (λ k. same x (leftOf t k) + same x (rightOf t k)) ks

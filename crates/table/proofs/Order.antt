@@ -1,4 +1,4 @@
--- The breadth-first order: how it grows, what it reaches, and that children stand after their parents. Rests on Lists, Chain, Sound and Scan.
+-- The breadth-first order: how it grows, what it reaches, and that children stand after their parents. Rests on Lists, Chain, Causes and Scan.
 use mathlib.Core.Path.{_≡_, refl, sym, ap, _∙_, subst}
 use mathlib.Core.Logic.{_⊎_, inl, inr, ⊎-elim, ⊎-map}
 use mathlib.Core.Bool.{Bool, true, false, not, cond, _&&_, _||_}
@@ -18,7 +18,7 @@ use Rattle.table.specs.Refusal.{links, named}
 use Rattle.table.specs.Steps.{Rooted, Queue, present, notOnce, notReached}
 use Rattle.table.proofs.Lists.{passes, any-false, same, same-one, Alike, alike, count-append, member-count, Within, length-within, links-within}
 use Rattle.table.proofs.Chain.{links-append, namer, reached}
-use Rattle.table.proofs.Sound.{unless, inside, shorter, child, counted}
+use Rattle.table.proofs.Causes.{Parented, sound-within, sound-length, sound-once, named-within}
 use Rattle.table.proofs.Scan.{member-at, place}
 
 pub present-none : (k : ℕ) → k ≡ 0 → present (k ∷ []) ≡ []
@@ -61,20 +61,17 @@ children t ks k =
 
 module _ (t : List ℕ) (r : Rooted t) where
   root-some : 1 ≤ rootOf t
-  root-some = inside t (r .sound) (rootOf t) (r .root) .0
+  root-some = sound-within t (r .sound) (rootOf t) (r .root) .0
 
-  -- A record other than zero is the root and a child no more often than it stands on the chain.
-  family : (x : ℕ) → 0 < x → same x (rootOf t) + named t x ≤ count x (chain t)
+  pub parented : Parented t
   unfolding notOnce
-  family =
-      counted t (r .linked) (r .root) (r .unnamed)
-      (λ k m. ⊎-map (eqb→eq k (rootOf t)) (λ (f : not (eqb (named t k) 1) ≡ false). eqb→eq (named t k) 1 (passes (eqb (named t k) 1) f))
-      (unless (eqb k (rootOf t)) (not (eqb (named t k) 1)) (any-false (λ n. not (eqb n (rootOf t)) && not (eqb (named t n) 1)) (chain t) .0 (r .once) k m)))
+  parented = record { linked = r .linked; root = inr (r .root); unnamed = r .unnamed; once = sound-once t (r .once) }
 
+  -- A root and its children, and theirs, stand no more often than on the chain.
   family-within : (ks : List ℕ) → Within ks (chain t) → Within (rootOf t ∷ present (links t ks)) (chain t)
   unfolding count
   family-within ks w zero = rw (ne-eqb 0 (rootOf t) (λ e. omega (arith, root-some))) (omega (arith, zero-present (links t ks)))
-  family-within ks w (suc x) = omega (arith, count-present x (links t ks), links-within t (suc x) ks (chain t) w, family (suc x) (omega arith))
+  family-within ks w (suc x) = omega (arith, count-present x (links t ks), links-within t (suc x) ks (chain t) w, named-within t parented (suc x) (omega arith))
 
   pub queue-start : Queue t 0 (rootOf t ∷ [])
   unfolding links present count
@@ -107,7 +104,7 @@ module _ (t : List ℕ) (r : Rooted t) where
     queue-step = rw add-one (record { listed = listed ∙ ap (λ (l : List ℕ). rootOf t ∷ present (links t l)) (sym (kept (suc h) lt)); early = early; within = rw listed (family-within (take (suc h) o) (λ k. omega (arith, take-within (suc h) o k, q .within k))) })
 
   queue-length : (h : ℕ) (o : List ℕ) → Queue t h o → length o < 4097
-  queue-length h o q = omega (arith, length-within o (chain t) (q .within), shorter t (r .sound) (r .shaped .head), r .shaped .room)
+  queue-length h o q = omega (arith, length-within o (chain t) (q .within), sound-length t (r .shaped .whole) (r .sound), r .shaped .room)
 
 pub queue-chained : (t : List ℕ) (h : ℕ) (o : List ℕ) → Queue t h o → (i : ℕ) → i < length o → T (member (getD o i 0) (chain t))
 queue-chained t h o q i l = member-count (getD o i 0) (chain t) .1 (omega (arith, member-count (getD o i 0) o .0 (member-at o i l), q .within (getD o i 0)))
@@ -139,7 +136,7 @@ module _ (t order : List ℕ) (r : Rooted t) where
     at-head = getD-take tail order head 0 lt
 
     pub spread-inside : getD order head 0 < records t
-    spread-inside = rw (← at-head) (inside t (r .sound) _ (queue-chained t head (take tail order) (s .queue) head (omega (arith, first-tail))) .1)
+    spread-inside = rw (← at-head) (sound-within t (r .sound) _ (queue-chained t head (take tail order) (s .queue) head (omega (arith, first-tail))) .1)
 
     module _ (a b : ℕ) (ea : a ≡ leftOf t (getD order head 0)) (eb : b ≡ rightOf t (getD order head 0)) where
       step : Queue t (head + 1) ((take tail order ++ present (a ∷ [])) ++ present (b ∷ []))

@@ -1,65 +1,24 @@
 -- A whole breadth-first order: children stand after their parents, each node of the order is a node of the tree, and the order is as long as the chain just where all
--- is reached. Rests on Lists, Chain, Sound, Scan and Order.
+-- is reached. Rests on Lists, Chain, Causes, Scan and Order.
 use mathlib.Core.Path.{_≡_, refl, sym, ap, _∙_, subst}
-use mathlib.Core.Logic.{_⊎_, inl, inr, ⊎-elim, ⊎-map}
-use mathlib.Core.Bool.{Bool, true, false, not, _||_}
+use mathlib.Core.Logic.{inl, inr}
+use mathlib.Core.Bool.{Bool, true, false, not}
 use mathlib.Core.List.{List, [], _∷_, _++_}
-use Prim.Native.Nat.{ℕ, zero, suc, _+_, _-_, _≤_, _<_}
+use Prim.Native.Nat.{ℕ, zero, suc, _+_, _≤_, _<_}
 use native.Mathlib.Omega.{arith}
 use lib.Dec.{T}
 use lib.ListN.{length, getD, take, drop, take-append-drop, List·getD-append}
 use lib.Seq.{take-length, drop-cons, drop-append-le, length-take-le, getD-take}
 use Rattle.table.specs.Lists.{any, member, count}
 use Rattle.table.specs.Table.{Side, left, right, records, leftOf, rightOf, linkOf, rootOf, chain}
-use Rattle.table.specs.Tree.{Tree, none, node, nodes, tree, descend}
+use Rattle.table.specs.Tree.{nodes, tree}
 use Rattle.table.specs.Refusal.{links}
 use Rattle.table.specs.Steps.{Rooted, Queue, Filled, present, notReached}
-use Rattle.table.proofs.Lists.{T-true, T-false, passes, or-T, any-false, count-append, member-append, member-cons, member-count, Within, within, length-within, within-back, covers}
-use Rattle.table.proofs.Chain.{nodes-cases, links-append, names, namer, reached}
-use Rattle.table.proofs.Sound.{distinct, inside, shorter}
+use Rattle.table.proofs.Lists.{T-true, passes, or-T, any-false, same, same-one, member-append, member-cons, member-count, within, length-within, within-back}
+use Rattle.table.proofs.Chain.{links-append, names, namer, reached}
+use Rattle.table.proofs.Causes.{sound-distinct, sound-within, sound-length, nodes-rooted}
 use Rattle.table.proofs.Scan.{member-at, place}
-use Rattle.table.proofs.Order.{present-append, count-present, zero-present}
-
--- Nodes of the tree from record r down.
-node-member : (x k : ℕ) (a b : Tree) → (x ≡ k) ⊎ (T (member x (nodes a)) ⊎ T (member x (nodes b))) → T (member x (nodes (node k a b)))
-unfolding nodes
-node-member x k a b h =
-    member-cons x k (nodes a ++ nodes b) .1
-    (⊎-map (λ (e : x ≡ k). e) (λ (m : T (member x (nodes a)) ⊎ T (member x (nodes b))). rw member-append (or-T (member x (nodes a)) (member x (nodes b)) .1 m)) h)
-
-module _ (t : List ℕ) where
-  nodes-root : (n r : ℕ) → 0 < r → T (member r (nodes (descend (suc n) t r)))
-  unfolding descend
-  nodes-root n zero h = absurd (omega arith)
-  nodes-root n (suc r) h = node-member (suc r) (suc r) (descend n t (leftOf t (suc r))) (descend n t (rightOf t (suc r))) (inl refl)
-
-  below : (s : Side) (n r x : ℕ) → T (member x (nodes (descend n t (linkOf t s (suc r))))) → T (member x (nodes (descend (suc n) t (suc r))))
-  unfolding descend
-  below left n r x m = node-member x (suc r) (descend n t (leftOf t (suc r))) (descend n t (rightOf t (suc r))) (inr (inl m))
-  below right n r x m = node-member x (suc r) (descend n t (leftOf t (suc r))) (descend n t (rightOf t (suc r))) (inr (inr m))
-
-  -- More levels, more nodes.
-  nodes-more : (n m r x : ℕ) → n ≤ m → T (member x (nodes (descend n t r))) → T (member x (nodes (descend m t r)))
-  unfolding descend
-  nodes-more zero m r x h i = absurd (unfold nodes member in i)
-  nodes-more (suc n) zero r x h i = absurd (omega arith)
-  nodes-more (suc n) (suc m) zero x h i = absurd (unfold nodes member in i)
-  nodes-more (suc n) (suc m) (suc r) x h i =
-      ⊎-elim (λ (e : x ≡ suc r). rw e (nodes-root m (suc r) (omega arith)))
-      (⊎-elim (λ (j : T (member x (nodes (descend n t (leftOf t (suc r)))))). below left m r x (nodes-more n m (leftOf t (suc r)) x (omega arith) j))
-      (λ (j : T (member x (nodes (descend n t (rightOf t (suc r)))))). below right m r x (nodes-more n m (rightOf t (suc r)) x (omega arith) j)))
-      (nodes-cases x (suc r) (descend n t (leftOf t (suc r))) (descend n t (rightOf t (suc r))) i)
-
-  -- A child is one level further.
-  nodes-child : (n r k : ℕ) (s : Side) → 0 < linkOf t s k → T (member k (nodes (descend n t r))) → T (member (linkOf t s k) (nodes (descend (suc n) t r)))
-  unfolding descend
-  nodes-child zero r k s h i = absurd (unfold nodes member in i)
-  nodes-child (suc n) zero k s h i = absurd (unfold nodes member in i)
-  nodes-child (suc n) (suc r) k s h i =
-      ⊎-elim (λ (e : k ≡ suc r). below s (suc n) r (linkOf t s k) (rw e (nodes-root n (linkOf t s (suc r)) (rw e at h))))
-      (⊎-elim (λ (j : T (member k (nodes (descend n t (leftOf t (suc r)))))). below left (suc n) r (linkOf t s k) (nodes-child n (leftOf t (suc r)) k s h j))
-      (λ (j : T (member k (nodes (descend n t (rightOf t (suc r)))))). below right (suc n) r (linkOf t s k) (nodes-child n (rightOf t (suc r)) k s h j)))
-      (nodes-cases k (suc r) (descend n t (leftOf t (suc r))) (descend n t (rightOf t (suc r))) i)
+use Rattle.table.proofs.Order.{present-append, count-present, zero-present, parented}
 
 -- What is named by one of a list is among its children.
 child-present : (t ks : List ℕ) (k x : ℕ) (s : Side) → T (member k ks) → linkOf t s k ≡ x → 0 < x → T (member x (present (links t ks)))
@@ -101,15 +60,22 @@ module _ (t o : List ℕ) (q : Queue t (length o) o) where
       (j .0, p .1, l, omega (arith, c .0), d ∙ sym e)
 
 module _ (t : List ℕ) (r : Rooted t) (o : List ℕ) (q : Queue t (length o) o) where
-  -- Node i is within i + 1 levels.
-  level : (n i : ℕ) → i < n → i < length o → T (member (getD o i 0) (nodes (descend (suc i) t (rootOf t))))
+  -- The root, and what nodes of the tree name, are nodes of the tree.
+  in-tree : (x : ℕ) → 0 < x → 1 ≤ same x (rootOf t) + count x (links t (nodes (tree t))) → T (member x (nodes (tree t)))
+  in-tree zero z h = absurd (omega arith)
+  in-tree (suc x) z h = member-count (suc x) (nodes (tree t)) .1 (omega (arith, nodes-rooted t (parented t r) (sound-length t (r .shaped .whole) (r .sound)) x))
+
+  -- Each node of the order is one of the tree, if those before it are.
+  level : (n i : ℕ) → i < n → i < length o → T (member (getD o i 0) (nodes (tree t)))
   level zero i l h = absurd (omega arith)
-  level (suc n) zero l h = rw (ap (λ (k : List ℕ). getD k 0 0) (q .listed)) (nodes-root t 0 (rootOf t) (inside t (r .sound) (rootOf t) (r .root) .0))
+  level (suc n) zero l h =
+      rw (ap (λ (k : List ℕ). getD k 0 0) (q .listed))
+      (in-tree (rootOf t) (sound-within t (r .sound) (rootOf t) (r .root) .0) (omega (arith, same-one (rootOf t) (rootOf t) refl)))
   level (suc n) (suc i) l h =
       let e = earlier t o q i h in
       rw (← (e .4))
-      (nodes-more t (suc (suc (e .0))) (suc (suc i)) (rootOf t) (linkOf t (e .1) (getD o (e .0) 0)) (omega (arith, e .2))
-      (nodes-child t (suc (e .0)) (rootOf t) (getD o (e .0) 0) (e .1) (e .3) (level n (e .0) (omega (arith, e .2)) (omega (arith, e .2)))))
+      (in-tree (linkOf t (e .1) (getD o (e .0) 0)) (e .3)
+      (omega (arith, names t (linkOf t (e .1) (getD o (e .0) 0)) (getD o (e .0) 0) (e .1) (nodes (tree t)) (level n (e .0) (omega (arith, e .2)) (omega (arith, e .2))) refl)))
 
   pub all-reached : length o ≡ length (chain t) → notReached t ≡ false
   unfolding notReached
@@ -118,12 +84,12 @@ module _ (t : List ℕ) (r : Rooted t) (o : List ℕ) (q : Queue t (length o) o)
       go : (k : ℕ) → T (member k (chain t)) → T (member k (nodes (tree t)))
       go k m =
           let p = place k o (member-count k o .1 (omega (arith, member-count k (chain t) .0 m, within-back o (chain t) (q .within) (omega arith) k))) in
-          nodes-more t (suc (p .0)) (records t) (rootOf t) k (omega (arith, p .1, shorter t (r .sound) (r .shaped .head))) (rw (p .2) at (level (suc (p .0)) (p .0) (omega arith) (p .1)))
+          rw (p .2) at (level (suc (p .0)) (p .0) (omega arith) (p .1))
 
   pub reached-all : notReached t ≡ false → length o ≡ length (chain t)
   unfolding notReached
   reached-all e =
-      omega (arith, length-within o (chain t) (q .within), length-within (chain t) o (within (chain t) o (distinct t (r .sound)) go))
+      omega (arith, length-within o (chain t) (q .within), length-within (chain t) o (within (chain t) o (sound-distinct t (r .sound)) go))
     where
       first : T (member (rootOf t) o)
       first = rw (q .listed) (member-cons (rootOf t) (rootOf t) (present (links t (take (length o) o))) .1 (inl refl))
@@ -137,7 +103,7 @@ module _ (t : List ℕ) (r : Rooted t) (o : List ℕ) (q : Queue t (length o) o)
       go : (k : ℕ) → T (member k (chain t)) → T (member k o)
       go k m =
           reached (λ n. 0 < n → T (member n o)) t next (records t) (rootOf t) (λ z. first) k
-          (passes (member k (nodes (tree t))) (any-false (λ n. not (member n (nodes (tree t)))) (chain t) .0 e k m)) (inside t (r .sound) k m .0)
+          (passes (member k (nodes (tree t))) (any-false (λ n. not (member n (nodes (tree t)))) (chain t) .0 e k m)) (sound-within t (r .sound) k m .0)
 
 -- The first m numbers of an array are a whole order.
 module _ (t order : List ℕ) (m n : ℕ) (r : Rooted t) (long : length order ≡ 4097) (q : (m ≤ 4097) × Queue t m (take m order)) (nodes : n ≡ length (chain t)) where

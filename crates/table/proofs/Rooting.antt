@@ -1,4 +1,4 @@
--- Cause 5 from the tests of the code. Rests on Lists, Chain and Sound.
+-- Cause 5 from the tests of the code. Rests on Lists, Chain and Causes.
 use mathlib.Core.Path.{_≡_, refl, sym, ap, _∙_}
 use mathlib.Core.Bool.{Bool, true, false, not, cond, _&&_, _||_, or-assoc, or-true, and-false, Bool·not-not}
 use mathlib.Core.List.{List, []}
@@ -14,7 +14,7 @@ use Rattle.table.specs.Refusal.{badChain, badLinks, isEmpty, named, badT
 use Rattle.table.specs.Steps.{Shaped, Marked, Rooted, Filled, Grown, notOnce, notReached}
 use Rattle.table.proofs.Lists.{T-true, T-false, or-false}
 use Rattle.table.proofs.Chain.{follow-none}
-use Rattle.table.proofs.Sound.{inside}
+use Rattle.table.proofs.Causes.{sound-within}
 
 -- With a root, the tree is not empty.
 pub tree-tests : (t : List ℕ) → (rootOf t ≡ 0 → ⊥) → badTree t ≡ not (member (rootOf t) (chain t)) || ((not (eqb (named t (rootOf t)) 0) || notOnce t) || notReached t)
@@ -38,7 +38,7 @@ tree-empty t s e l =
 pub tree-headless : (t : List ℕ) → badChain t ≡ false → rootOf t ≡ 0 → (length (chain t) ≡ 0 → ⊥) → badTree t ≡ true
 unfolding badTree isEmpty
 tree-headless t b e l =
-    rw (ne-eqb (nextOf t 0) 0 (λ n. l (ended n)), T-false (member (rootOf t) (chain t)) .0 (λ m. omega (arith, inside t b (rootOf t) m)))
+    rw (ne-eqb (nextOf t 0) 0 (λ n. l (ended n)), T-false (member (rootOf t) (chain t)) .0 (λ m. omega (arith, sound-within t b (rootOf t) m)))
   where
     ended : nextOf t 0 ≡ 0 → length (chain t) ≡ 0
     ended n = unfold chain in (rw (n, follow-none))
@@ -52,7 +52,7 @@ accepted t r e =
       r .shaped .zeros,
       r .sound,
       r .linked,
-      tree-tests t (λ z. omega (arith, inside t (r .sound) (rootOf t) (r .root))),
+      tree-tests t (λ z. omega (arith, sound-within t (r .sound) (rootOf t) (r .root))),
       T-true (member (rootOf t) (chain t)) .0 (r .root),
       eq-eqb (named t (rootOf t)) 0 (r .unnamed),
       r .once,

@@ -1,4 +1,4 @@
--- Going through a listed chain: where its records are, and when none of them passes a test. Rests on Lists and Sound.
+-- Going through a listed chain: where its records are, and when none of them passes a test. Rests on Lists and Causes.
 use mathlib.Core.Path.{_≡_, refl, sym, ap, _∙_, subst}
 use mathlib.Core.Logic.{_⊎_, inl, inr, ⊎-elim}
 use mathlib.Core.Bool.{Bool, true, false, not, cond, _&&_, _||_, or-true}
@@ -14,7 +14,7 @@ use Rattle.table.specs.Table.{records, chain}
 use Rattle.table.specs.Refusal.{beyond, stray}
 use Rattle.table.specs.Steps.{Listed, Marked}
 use Rattle.table.proofs.Lists.{T-true, T-false, member-cons, any-false}
-use Rattle.table.proofs.Sound.{inside}
+use Rattle.table.proofs.Causes.{sound-within}
 
 -- What stands at a place is a member, and a member stands at a place.
 pub member-at : (ks : List ℕ) (i : ℕ) → i < length ks → T (member (getD ks i 0) ks)
@@ -43,7 +43,7 @@ module _ (t : List ℕ) (n : ℕ) (list : List ℕ) (l : Listed t n list) where
   listed-member i h = rw (sym (same-place i h)) (member-at (chain t) i (omega (arith, l .nodes)))
 
   pub listed-inside : (i : ℕ) → i < n → getD list i 0 < records t
-  listed-inside i h = inside t (l .sound) (getD list i 0) (listed-member i h) .1
+  listed-inside i h = sound-within t (l .sound) (getD list i 0) (listed-member i h) .1
 
   pub scan-hit : (f : ℕ → Bool) (i : ℕ) → i < n → f (getD list i 0) ≡ true → any f (chain t) ≡ true
   scan-hit f i h e = any-true f (chain t) (getD list i 0) (listed-member i h) e
@@ -61,7 +61,7 @@ module _ (t : List ℕ) (n : ℕ) (list : List ℕ) (l : Listed t n list) where
   stray-mark mark m k = ap (λ (b : Bool). not (eqb k 0) && b) (rw (m .marks k) (go (member k (chain t)) refl))
     where
       go : (b : Bool) → member k (chain t) ≡ b → eqb (cond b 1 0) 0 ≡ beyond t k || not b
-      go true e = rw (lt-leb (records t) k (inside t (l .sound) k (T-true (member k (chain t)) .1 e) .1))
+      go true e = rw (lt-leb (records t) k (sound-within t (l .sound) k (T-true (member k (chain t)) .1 e) .1))
       go false e = rw or-true
 
   pub stray-by : (mark : List ℕ) → Marked t mark → (r b : Bool) (k link : ℕ) → r ≡ b → r ≡ not (eqb link 0) && eqb (getD mark link 0) 0 → link ≡ k → stray t k ≡ b

@@ -1,4 +1,4 @@
--- Counting the links of a listed chain. Rests on Lists, Chain, Sound and Scan.
+-- Counting the links of a listed chain. Rests on Lists, Chain, Causes and Scan.
 use mathlib.Core.Path.{_≡_, refl, sym, ap, _∙_}
 use mathlib.Core.Logic.{_⊎_, inl, inr, ⊎-elim}
 use mathlib.Core.Bool.{Bool, true, false, cond}
@@ -15,7 +15,7 @@ use Rattle.table.specs.Refusal.{badLinks, links}
 use Rattle.table.specs.Steps.{Listed, Blank, Tallied}
 use Rattle.table.proofs.Lists.{same, same-one, Alike, alike, count-append}
 use Rattle.table.proofs.Chain.{links-append}
-use Rattle.table.proofs.Sound.{inside, shorter, child}
+use Rattle.table.proofs.Causes.{sound-within, sound-length, sound-links}
 use Rattle.table.proofs.Scan.{listed-member}
 
 -- tally has how often each number stands in the list.
@@ -54,12 +54,12 @@ counts-more ks tally after n c h e = rw e (record { long = simp length-set (c .l
 
 module _ (t : List ℕ) (n : ℕ) (list : List ℕ) (l : Listed t n list) where
   listed-few : n < 4097
-  listed-few = omega (arith, l .nodes, shorter t (l .sound) (l .shaped .head), l .shaped .room)
+  listed-few = omega (arith, l .nodes, sound-length t (l .shaped .whole) (l .sound), l .shaped .room)
 
   pub link-few : badLinks t ≡ false → (i : ℕ) (s : Side) (x : ℕ) → i < n → x ≡ linkOf t s (getD list i 0) → x < 4097
   link-few b i s x h e =
-      ⊎-elim (λ (z : linkOf t s (getD list i 0) ≡ 0). omega arith) (λ (m : T (member (linkOf t s (getD list i 0)) (chain t))). omega (arith, inside t (l .sound) _ m, l .shaped .room))
-      (child t b (getD list i 0) s (listed-member t n list l i h))
+      ⊎-elim (λ (z : linkOf t s (getD list i 0) ≡ 0). omega arith) (λ (m : T (member (linkOf t s (getD list i 0)) (chain t))). omega (arith, sound-within t (l .sound) _ m, l .shaped .room))
+      (sound-links t b (getD list i 0) s (listed-member t n list l i h))
 
   pub links-few : (i : ℕ) → i < n → length (links t (take i list)) ≤ 8190
   links-few i h = omega (arith, listed-few, length-links t (take i list), length-take-le i list (omega (arith, l .long)))

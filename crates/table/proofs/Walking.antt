@@ -1,4 +1,4 @@
--- The walk along the chain: what its loop keeps, and how it ends. Rests on Lists, Chain and Sound.
+-- The walk along the chain: what its loop keeps, and how it ends. Rests on Lists, Chain and Causes.
 use mathlib.Core.Path.{_≡_, refl, sym, ap, _∙_}
 use mathlib.Core.Logic.{_⊎_, inl, inr, ⊎-elim, ⊎-map}
 use mathlib.Core.Bool.{Bool, true, false, cond, _||_, or-true, or-false}
@@ -15,9 +15,9 @@ use Rattle.table.specs.Lists.{any, member, repeats, count}
 use Rattle.table.specs.Table.{records, nextOf, follow, chain}
 use Rattle.table.specs.Refusal.{beyond, badChain}
 use Rattle.table.specs.Steps.{Shaped, Listed, Blank, Marked, Walked}
-use Rattle.table.proofs.Lists.{or-T, or-false as or-false², any-false, member-append, member-cons, member-count, member-none, same, same-one, alike, Alike, count-append, Distinct, repeats-count}
+use Rattle.table.proofs.Lists.{or-T, or-false as or-false², any-false, member-append, member-cons, member-count, member-none, same, same-one, alike, Alike, count-append, Distinct, repeats-count, length-between}
 use Rattle.table.proofs.Chain.{follow-none}
-use Rattle.table.proofs.Sound.{fewer, distinct, inside}
+use Rattle.table.proofs.Causes.{sound-distinct, sound-within}
 
 -- After i records, with the walk at record `at`: they are the start of the chain, distinct and within the table, and they alone are marked.
 pub record Walk (t : List ℕ) (i at : ℕ) (list mark : List ℕ) : Type 0 where
@@ -101,12 +101,12 @@ module _ (t : List ℕ) (i at : ℕ) (list mark : List ℕ) (w : Walk t i at lis
     one-more = rw (more, count-append) (omega (arith, same-one at at refl))
 
     pub walk-beyond : records t ≤ at → Walked t (record { refusal = 3; nodes = 0 }) list mark
-    walk-beyond b = refused t list mark (λ s. omega (arith, inside t s at (member-count at (chain t) .1 (omega (arith, one-more)))))
+    walk-beyond b = refused t list mark (λ s. omega (arith, sound-within t s at (member-count at (chain t) .1 (omega (arith, one-more)))))
 
     pub walk-twice : (getD mark at 0 ≡ 0 → ⊥) → Walked t (record { refusal = 3; nodes = 0 }) list mark
     walk-twice m =
         refused t list mark
-        (λ s. omega (arith, one-more, repeats-count (chain t) .0 (distinct t s) at, member-count at (take i list) .0 (seen (member at (take i list)) (λ e. m (w .marks at ∙ e)))))
+        (λ s. omega (arith, one-more, repeats-count (chain t) .0 (sound-distinct t s) at, member-count at (take i list) .0 (seen (member at (take i list)) (λ e. m (w .marks at ∙ e)))))
 
     module _ (shaped : Shaped t) (b : at < records t) (m : getD mark at 0 ≡ 0) where
       taken : take (i + 1) (set list i at) ≡ take i list ++ (at ∷ [])
@@ -148,7 +148,7 @@ module _ (t : List ℕ) (i at : ℕ) (list mark : List ℕ) (w : Walk t i at lis
         room =
             omega (
               arith,
-              fewer (records t) (take i list ++ (at ∷ [])) (shaped .head) once within,
+              length-between (records t) (take i list ++ (at ∷ [])) (shaped .head) once within,
               length-append (take i list) (at ∷ []),
               length-take-le i list (omega (arith, w .room, w .list-long, shaped .room)),
             );

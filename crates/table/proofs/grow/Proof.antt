@@ -8,7 +8,7 @@ use lib.ListN.{length, length-set}
 use Rattle.table.specs.Lists.{member}
 use Rattle.table.specs.Table.{chain as chainOf}
 use Rattle.table.specs.Steps.{Rooted}
-use Rattle.table.proofs.Sound.{inside}
+use Rattle.table.proofs.Causes.{sound-within}
 use Rattle.table.proofs.Lists.{T-true}
 use Rattle.table.proofs.Rooting.{tree-empty, tree-headless, grown-bad, grown-good, marked-by, unfilled, off-chain, ill-named, reached-or-bad, rooted}
 use borrow.Author.Needs.{needs}
@@ -78,7 +78,7 @@ well-rooted c =
 misnamed-requires : tie.Need-misnamed-requires
 misnamed-requires c κs =
     let s = c .before .before .before .before .before .before .before .before in
-    let h = inside _ (s .pre .0 .sound) (c .before .before .before .left .result) (T-true _ .1 (on-chain c)) in
+    let h = sound-within _ (s .pre .0 .sound) (c .before .before .before .left .result) (T-true _ .1 (on-chain c)) in
     (s .pre .0, (s .pre .1 .1 .0, (c .before .before .before .left .ensures .0, omega (arith, h, s .pre .0 .shaped .room))))
 
 -- src/lib.rt:74:9
