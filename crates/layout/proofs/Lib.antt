@@ -1,11 +1,12 @@
 -- The laws of the drawing.
 pub mod Clean
 pub mod Points
+pub mod Meet
 pub mod Motions
-pub mod Rows
+pub mod Shape
 pub mod Steps
 pub mod Along
-pub mod Filled
-pub mod Whole
+pub mod Rows
+pub mod Spines
 pub mod Theorem
 pub mod Records
