@@ -1,5 +1,5 @@
 -- The drawer's whole answer for any bytes and placements: refusal, plan, and every placement afterwards (document 01, "The rack table", "How the contracts bind").
-use mathlib.Core.Bool.{Bool, true, false}
+use mathlib.Core.Bool.{true, false}
 use mathlib.Core.List.{List}
 use Prim.Native.Nat.{ℕ, _+_, _*_}
 use lib.Dec.{eqb}

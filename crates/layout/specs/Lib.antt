@@ -2,3 +2,4 @@
 pub mod Layout
 pub mod Spine
 pub mod Drawing
+pub mod Held

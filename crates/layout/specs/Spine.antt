@@ -1,5 +1,5 @@
 -- The spine of a tree and the roles of its nodes, from the tree alone (document 01, "The drawing steps", steps 1, 2 and 7).
-use mathlib.Core.Bool.{Bool, true, false}
+use mathlib.Core.Bool.{true, false}
 use mathlib.Core.List.{List, [], _∷_}
 use Prim.Native.Nat.{ℕ}
 use lib.Dec.{leb}

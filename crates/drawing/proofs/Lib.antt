@@ -1,0 +1,3 @@
+-- Laws of the drawer's answer.
+pub mod Answered
+pub mod Store

@@ -1,0 +1,85 @@
+-- Laws of `store`: the length is kept (`store-length`), every entry but those of the layout's records is kept (`store-kept`), and the entries of a node of a
+-- layout with distinct records are its point (`store-point`).
+use mathlib.Core.Path.{_≡_, refl, ap, ap₂, _∙_}
+use mathlib.Core.Logic.{_≢_}
+use mathlib.Core.List.{List}
+use Prim.Native.Nat.{ℕ, _+_, _*_, _≤_, _<_}
+use native.Mathlib.Omega.{arith}
+use lib.ListN.{length, getD, set, length-set}
+use lib.Seq.{getD-set-same, getD-set-other}
+use Rattle.segment.specs.declared.Point.{Point}
+use Rattle.segment.specs.Segment.{at}
+use Rattle.table.specs.Lists.{count}
+use Rattle.table.specs.Tree.{nodes}
+use Rattle.table.proofs.Lists.{same, same-one, count-append}
+use Rattle.layout.specs.Layout.{Layout, blank, placed}
+use Rattle.layout.proofs.Clean.{Node, root, left-node, right-node, point, recordOf}
+use Rattle.layout.proofs.Rows.{shape}
+use Rattle.drawing.specs.Answer.{store}
+
+-- How often a layout has the record k.
+abbrev pub times : ℕ → Layout → ℕ
+times k L = count k (nodes (shape L))
+
+-- The point at a record's entries.
+abbrev pub pointAt : List ℕ → ℕ → Point
+pointAt p k = at (getD p (2 * k) 0) (getD p (2 * k + 1) 0)
+
+-- A point stored at a record's entries.
+abbrev pub pair : List ℕ → ℕ → Point → List ℕ
+pair p k P = set (set p (2 * k) (P .column)) (2 * k + 1) (P .row)
+
+pub store-length : (L : Layout) (p : List ℕ) → length (store L p) ≡ length p
+unfolding store
+store-length blank p = refl
+store-length (placed k P a b) p = store-length b _ ∙ (store-length a _ ∙ simp length-set)
+
+pub times-placed : (k j : ℕ) (P : Point) (a b : Layout) → times k (placed j P a b) ≡ same k j + (times k a + times k b)
+unfolding nodes shape count
+times-placed k j P a b = ap (λ (n : ℕ). same k j + n) (count-append k (nodes (shape a)) (nodes (shape b)))
+
+pub times-node : (L : Layout) (n : Node L) → 1 ≤ times (recordOf n) L
+times-node (placed j P a b) root = omega (arith, times-placed j j P a b, same-one j j refl)
+times-node (placed j P a b) (left-node n) = omega (arith, times-placed (recordOf n) j P a b, times-node a n)
+times-node (placed j P a b) (right-node n) = omega (arith, times-placed (recordOf n) j P a b, times-node b n)
+
+-- An entry that is none of the layout's.
+abbrev pub Outside : ℕ → Layout → Type 0
+Outside i L = (k : ℕ) → 1 ≤ times k L → (i ≢ 2 * k) × (i ≢ 2 * k + 1)
+
+pub store-kept : (L : Layout) (p : List ℕ) (i : ℕ) → Outside i L → getD (store L p) i 0 ≡ getD p i 0
+unfolding store
+store-kept blank p i out = refl
+store-kept (placed k P a b) p i out =
+    store-kept b _ i (λ j h. out j (omega (arith, times-placed j k P a b))) ∙
+    (store-kept a (pair p k P) i (λ j h. out j (omega (arith, times-placed j k P a b))) ∙
+    (getD-set-other (set p (2 * k) (P .column)) (2 * k + 1) i (P .row) 0 (here .1) ∙ getD-set-other p (2 * k) i (P .column) 0 (here .0)))
+  where
+    here : (i ≢ 2 * k) × (i ≢ 2 * k + 1)
+    here = out k (omega (arith, times-placed k k P a b, same-one k k refl))
+
+-- The entries of a record that the layout does not have.
+kept-point : (L : Layout) (p : List ℕ) (j : ℕ) → times j L ≡ 0 → pointAt (store L p) j ≡ pointAt p j
+kept-point L p j none = ap₂ at (store-kept L p (2 * j) (λ k h. (λ e. other k h (omega arith), λ e. omega arith))) (store-kept L p (2 * j + 1) (λ k h. (λ e. omega arith, λ e. other k h (omega arith))))
+  where
+    other : (k : ℕ) → 1 ≤ times k L → j ≡ k → ⊥
+    other k h e = omega (arith, ap (λ (n : ℕ). times n L) e)
+
+-- What is stored at one record.
+pair-point : (p : List ℕ) (k : ℕ) (P : Point) → 2 * k + 1 < length p → pointAt (pair p k P) k ≡ P
+pair-point p k P room = ap₂ at
+    (getD-set-other (set p (2 * k) (P .column)) (2 * k + 1) (2 * k) (P .row) 0 (λ e. omega arith) ∙ getD-set-same p (2 * k) (P .column) 0 (omega arith))
+    (getD-set-same (set p (2 * k) (P .column)) (2 * k + 1) (P .row) 0 (simp length-set room))
+
+pub store-point : (L : Layout) (p : List ℕ) → ((k : ℕ) → times k L ≤ 1) → ((k : ℕ) → 1 ≤ times k L → 2 * k + 1 < length p) → (n : Node L) → pointAt (store L p) (recordOf n) ≡ point n
+unfolding store
+store-point (placed k P a b) p once room root =
+    kept-point b (store a (pair p k P)) k (omega (arith, once k, times-placed k k P a b, same-one k k refl)) ∙
+    (kept-point a (pair p k P) k (omega (arith, once k, times-placed k k P a b, same-one k k refl)) ∙
+    pair-point p k P (room k (omega (arith, times-placed k k P a b, same-one k k refl))))
+store-point (placed k P a b) p once room (left-node n) =
+    kept-point b (store a (pair p k P)) (recordOf n) (omega (arith, once (recordOf n), times-placed (recordOf n) k P a b, times-node a n)) ∙
+    store-point a (pair p k P) (λ j. omega (arith, once j, times-placed j k P a b)) (λ j h. simp length-set (room j (omega (arith, times-placed j k P a b)))) n
+store-point (placed k P a b) p once room (right-node n) =
+    store-point b (store a (pair p k P)) (λ j. omega (arith, once j, times-placed j k P a b))
+    (λ j h. rw (store-length a (pair p k P)) (simp length-set (room j (omega (arith, times-placed j k P a b))))) n

@@ -1,0 +1,107 @@
+-- Demand 3 over the definitions: `kept`, for all bytes and placements. Rests on the theorem on layouts and on the laws of an accepted table.
+use mathlib.Core.Path.{_≡_, refl, sym, ap, subst, _∙_}
+use mathlib.Core.Logic.{inl, inr}
+use mathlib.Core.List.{List}
+use Prim.Native.Nat.{ℕ, zero, suc, _+_, _*_, _≤_, _<_}
+use native.Mathlib.Omega.{arith}
+use lib.Dec.{T}
+use lib.ListN.{length}
+use Rattle.segment.proofs.CrossProduct.{cross-negative}
+use Rattle.table.specs.Lists.{count}
+use Rattle.table.specs.Table.{records, chain}
+use Rattle.table.specs.Tree.{Tree, none, node, size, nodes, tree}
+use Rattle.table.specs.Refusal.{fault, refusal}
+use Rattle.table.proofs.Accepted.{refusal-none, records-bounds, chain-within, chain-length, nodes-chain, nodes-distinct, size-chain}
+use Rattle.table.proofs.Lists.{repeats-count, member-count}
+use Rattle.layout.specs.Layout.{Layout, width, height}
+use Rattle.layout.specs.Drawing.{drawing, draw}
+use Rattle.layout.proofs.Theorem.{promise}
+use Rattle.layout.proofs.Records.{Agrees, Checked, drawn-checked}
+use Rattle.drawing.specs.Answer.{store, planOf, drawnOf, placedIn}
+use Rattle.drawing.specs.declared.Drawn.{Drawn}
+use Rattle.drawing.proofs.Store.{times, store-length, store-point}
+use Rattle.drawing.proofs.Answered.{Accepted, accepted, drawn-refusal}
+use Rattle.verdict.specs.Lines.{pointOf}
+use Rattle.verdict.specs.Conditions.{SamePoint, NotLower, Touching, OutOfOrder}
+use Rattle.verdict.specs.Verdict.{FirstOf, conditions}
+use Rattle.width.specs.Allowed.{floorLog2, allowedWidth}
+use Rattle.width.proofs.FloorLog2.{floor-bounds, allowed-some}
+use Rattle.guarantee.specs.Demand.{Kept}
+use Rattle.guarantee.proofs.TreeNodes.{chained-node, line-child}
+
+-- ---- from the conditions over the tree to the conditions over the table
+
+module _ (t p : List ℕ) (ok : fault t ≡ 0) (z : Checked (tree t) (pointOf p)) where
+  not-same : SamePoint t p → ⊥
+  not-same h = z .distinct (h .k) (h .m) (chained-node t ok (h .k) (h .chained-k)) (chained-node t ok (h .m) (h .chained-m)) (h .two) (h .same)
+
+  all-lower : NotLower t p → ⊥
+  all-lower h = let l = z .lower (h .k) (h .c) (h .s) (line-child t ok (h .line)) in omega (arith, l, h .not-greater)
+
+  no-touch : Touching t p → ⊥
+  no-touch (inl h) =
+      let (b, e, f, x, y) = z .planar (h .k) (h .c) (h .m) (h .d) (h .s) (h .s′) (line-child t ok (h .line)) (line-child t ok (h .line′)) (h .different) (h .q) (h .x) (h .y) (h .q≥1) (h .on-line) (h .on-line′) in
+      h .elsewhere b e f (record { in-column = x; in-row = y })
+  no-touch (inr h) = h .no-end (z .clear (h .b) (h .k) (h .c) (h .s) (chained-node t ok (h .b) (h .chained)) (line-child t ok (h .line)) (h .lies .q) (h .lies .q≥1) (h .lies .on))
+
+  in-order : OutOfOrder t p → ⊥
+  in-order h = h .not-below (cross-negative _ _ _ .1 (z .ordered (h .k) (h .a) (h .b) (line-child t ok (h .left-line)) (line-child t ok (h .right-line))))
+
+  good : FirstOf (conditions t p) 0
+  good = inr (not-same, inr (all-lower, inr (no-touch, inr (in-order, refl))))
+
+-- ---- the drawing's points are read back
+
+agrees : (t p : List ℕ) → fault t ≡ 0 → 2 * records t ≤ length p → Agrees (pointOf (store (draw (tree t)) p)) (draw (tree t))
+agrees t p ok long = store-point L p once room
+  where
+    L : Layout
+    L = draw (tree t)
+
+    same-records : (k : ℕ) → times k L ≡ count k (nodes (tree t))
+    same-records k = ap (λ (T : Tree). count k (nodes T)) (promise (tree t) .same)
+
+    once : (k : ℕ) → times k L ≤ 1
+    once k = omega (arith, same-records k, repeats-count (nodes (tree t)) .0 (nodes-distinct t ok) k)
+
+    room : (k : ℕ) → 1 ≤ times k L → 2 * k + 1 < length p
+    room k h = omega (arith, long, chain-within t ok k (nodes-chain t ok k .0 (member-count k (nodes (tree t)) .1 (omega (arith, h, same-records k)))) .1)
+
+-- ---- width and height
+
+no-width : (T : Tree) → size T ≡ 0 → width (draw T) ≤ 0
+unfolding draw drawing size width
+no-width none e = omega arith
+no-width (node k a b) e = absurd (omega arith)
+
+narrow : (t : List ℕ) → fault t ≡ 0 → width (draw (tree t)) ≤ allowedWidth (length (chain t))
+narrow t ok = go (length (chain t)) (size-chain t ok) (omega (arith, chain-length t ok, records-bounds t ok .1))
+  where
+    go : (n : ℕ) → size (tree t) ≡ n → n ≤ 4096 → width (draw (tree t)) ≤ allowedWidth n
+    go zero e most = omega (arith, no-width (tree t) e)
+    go (suc m) e most = rw (allowed-some (suc m) (omega arith) most) (promise (tree t) .narrow (floorLog2 (suc m)) (omega (arith, floor-bounds (suc m) (omega arith) .high)))
+
+-- ---- demand 3
+
+pub kept : (t p : List ℕ) → drawnOf t p .refusal ≡ 0 → Kept t p
+unfolding planOf
+kept t p e = record {
+  good = inr (rw length-after none-refused, good t (placedIn t p) ok (drawn-checked (tree t) (pointOf (placedIn t p)) (subst (λ (q : List ℕ). Agrees (pointOf q) (draw (tree t))) (sym (a .after)) (agrees t p ok long))));
+  narrow = subst (λ (d : Drawn). d .plan .width ≤ allowedWidth (length (chain t))) (sym (a .drawn)) (narrow t ok);
+  short = subst (λ (d : Drawn). d .plan .height ≤ length (chain t)) (sym (a .drawn)) (omega (arith, promise (tree t) .short, size-chain t ok));
+}
+  where
+    none-refused : refusal t (length p) ≡ 0
+    none-refused = sym (drawn-refusal t p) ∙ e
+
+    a : Accepted t p
+    a = accepted t p none-refused
+
+    ok : fault t ≡ 0
+    ok = refusal-none t (length p) .0 none-refused .0
+
+    long : 2 * records t ≤ length p
+    long = refusal-none t (length p) .0 none-refused .1
+
+    length-after : length (placedIn t p) ≡ length p
+    length-after = ap length (a .after) ∙ store-length (draw (tree t)) p

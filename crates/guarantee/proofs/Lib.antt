@@ -1,0 +1,3 @@
+-- The proof of demand 3 over the definitions.
+pub mod TreeNodes
+pub mod Demand3

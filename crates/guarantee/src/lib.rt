@@ -1,0 +1,1 @@
+// Draws, then checks: what the drawer accepts, the check calls good.

@@ -1,0 +1,95 @@
+-- The drawing as a program makes it, for the contracts of the drawer's inner functions: no tree is mirrored and no drawing flipped. Nothing here need be
+-- believed: it is proved equal to the drawing. A subtree is drawn on a side, held by its edge e on that side with its top at row t; the spine goes by the
+-- tree as it stands, hand and edge change at a switch, columns are counted from the hand's edge inwards.
+use mathlib.Core.Bool.{Bool, true, false}
+use mathlib.Core.List.{List, [], _∷_, map}
+use mathlib.Core.Path.{_≡_}
+use Prim.Native.Nat.{ℕ, suc, _+_, _-_, _≤_, max}
+use lib.Dec.{leb}
+use Rattle.segment.specs.Segment.{at}
+use Rattle.table.specs.Table.{Side, left, right}
+use Rattle.table.specs.Tree.{Tree, none, node, size}
+use Rattle.layout.specs.Layout.{Layout, blank, placed, width, height, mirror}
+use Rattle.layout.specs.Spine.{SpineNode, hangs, Role, knee, ordinary, switch, opposite, seen, roleAfter, Assigned, assigned, rolesAfter}
+use Rattle.layout.specs.Drawing.{hang, widest, join, Rest, draw}
+
+-- The tree as a side sees it.
+unfoldable pub facing : Side → Tree → Tree
+facing left t = t
+facing right t = mirror t
+
+-- k columns inwards from the edge e of a side.
+unfoldable pub inwards : Side → ℕ → ℕ → ℕ
+inwards left e k = e + k
+inwards right e k = e - k
+
+-- A layout held by its edge e on a side, with its top at row t; on the right it is flipped.
+unfoldable pub put : Side → ℕ → ℕ → Layout → Layout
+put s e t blank = blank
+put left e t (placed k P a b) = placed k (at (e + P .column) (t + P .row)) (put left e t a) (put left e t b)
+put right e t (placed k P a b) = placed k (at (e - P .column) (t + P .row)) (put right e t b) (put right e t a)
+
+-- The subtree S as it is hung on a side; how high and how wide its drawing is.
+unfoldable pub hungOn : Side → ℕ → ℕ → Tree → Layout
+hungOn s e t S = put s e t (draw (facing s S))
+
+unfoldable pub heightOn : Side → Tree → ℕ
+heightOn s S = height (draw (facing s S))
+
+unfoldable pub widthOn : Side → Tree → ℕ
+widthOn s S = width (draw (facing s S))
+
+-- The spine in the tree as it stands; of two equal subtrees it takes the one on the side.
+unfoldable pub spineOn : Side → Tree → List SpineNode
+spineOn s none = []
+spineOn left (node k a b) = elim (leb (size b) (size a)) [ true ↦ hangs k right b ∷ spineOn left a | false ↦ hangs k left a ∷ spineOn left b ]
+spineOn right (node k a b) = elim (leb (size a) (size b)) [ true ↦ hangs k left a ∷ spineOn right b | false ↦ hangs k right b ∷ spineOn right a ]
+
+-- The role of the next spine node, which is on the hand a, after a node of role o.
+unfoldable pub roleNext : Side → Role → List SpineNode → Role
+roleNext a o [] = o
+roleNext a o (l ∷ ls) = roleAfter o (seen a l)
+
+-- A child on the side s is on the far side of the hand a.
+unfoldable pub far : Side → Side → Bool
+far left left = false
+far left right = true
+far right left = true
+far right right = false
+
+-- Steps 4 to 8 from a spine node of the hand a and the role o on. The hand's edge is e, the other hand's f.
+unfoldable pub lay : (a : Side) (e f : ℕ) → Role → (H r p : ℕ) → List SpineNode → Rest
+lay a e f o H r p [] = record { drawn = blank; under = H + 1 }
+lay a e f knee H r p (hangs k s S ∷ ls) =
+    elim (far a s) [
+      | true ↦
+          let n : Rest = lay a e f (roleNext a knee ls) (max H r + heightOn a S) (max H r + heightOn a S + 1) 0 ls in
+          record { drawn = join k (at e r) s (hungOn a (inwards a e 1) (max H r + 1) S) (n .drawn); under = n .under }
+      | false ↦
+          let n : Rest = lay a e f (roleNext a knee ls) (max H r) (max H r + 1) (heightOn a S) ls in
+          record { drawn = join k (at e r) s (hungOn a (inwards a e 1) (n .under) S) (n .drawn); under = n .under }
+    ]
+lay a e f ordinary H r p (hangs k s S ∷ ls) =
+    let n : Rest = lay a e f (roleNext a ordinary ls) (r + heightOn a S) (r + max 1 (heightOn a S)) p ls in
+    record { drawn = join k (at (inwards a e 1) r) s (hungOn a (inwards a e 2) (r + 1) S) (n .drawn); under = n .under }
+lay a e f switch H r p (hangs k s S ∷ ls) =
+    let n : Rest = lay (opposite a) f e (roleNext (opposite a) switch ls) (r + heightOn a S + p) (r + 1) 0 ls in
+    record { drawn = join k (at (inwards a e 1) r) s (hungOn a (inwards a e 1) (r + 1) S) (n .drawn); under = r + heightOn a S + 1 }
+
+-- The roles of a spine drawn on the side s, whose first node is a knee of that side; W, the greatest width of what hangs from it.
+unfoldable pub rolesOn : Side → List SpineNode → List Assigned
+rolesOn s [] = []
+rolesOn s (l ∷ ls) = assigned knee (seen s l) ∷ rolesAfter s knee ls
+
+unfoldable pub widestOn : Side → Tree → ℕ
+widestOn s S = widest (map (hang draw) (rolesOn s (spineOn s S)))
+
+-- f is the other hand's edge, w columns inwards; on the right it need be so only if there are so many columns.
+abbrev pub Frame : Side → (e f w : ℕ) → Type 0
+Frame left e f w = f ≡ e + w
+Frame right e f w = w ≤ e → e ≡ f + w
+
+-- On the right a drawing has to fit: there is no column left of 0.
+abbrev pub Fit : Side → ℕ → Layout → Type 0
+Fit left e L = Unit {0}
+Fit right e L = width L ≤ suc e

@@ -1,0 +1,8 @@
+-- The laws of segments. None is assumed.
+pub mod Decides
+pub mod Difference
+pub mod CrossProduct
+pub mod Range
+pub mod SharedPoint
+pub mod Clashing
+pub mod Answers

@@ -1,0 +1,109 @@
+-- What a table is like without one of the causes of refusal, or some. Rests on Lists and Chain.
+use mathlib.Core.Path.{_≡_}
+use mathlib.Core.Logic.{_⊎_, inl, inr, ⊎-elim, ⊎-map}
+use mathlib.Core.Bool.{Bool, true, false, not, _&&_, _||_}
+use mathlib.Core.List.{List, _∷_}
+use Prim.Native.Nat.{ℕ, zero, suc, _+_, _%_, _≤_, _<_}
+use native.Mathlib.Omega.{arith}
+use lib.Dec.{T, eqb, ltb, eqb→eq}
+use lib.ListN.{length}
+use borrow.Author.Tests.{ltb-false, leb-false, eqb-false}
+use Rattle.table.specs.Lists.{any, member, repeats, count}
+use Rattle.table.specs.Table.{Side, left, right, records, nextOf, leftOf, rightOf, linkOf, rootOf, chain}
+use Rattle.table.specs.Tree.{size, nodes, descend, tree}
+use Rattle.table.specs.Refusal.{badLength, beyond, badChain, stray, badLinks, links, named}
+use Rattle.table.proofs.Lists.{T-false, passes, or-false, any-false, same, Alike, alike, member-cons, member-count, Distinct, Within, length-within, length-below, links-within}
+use Rattle.table.proofs.Chain.{Chained, follow-zero, nodes-zero, descend-more, length-nodes, nodes-deeper, namer}
+
+-- What is false where a does not pass.
+pub unless : (a b : Bool) → not a && b ≡ false → T a ⊎ (b ≡ false)
+unless true b e = inl tt
+unless false b e = inr e
+
+module _ (t : List ℕ) where
+  -- Without 1: there is a head, and there are at most 4,097 records.
+  pub length-bounds : badLength t ≡ false → (1 ≤ records t) × (records t ≤ 4097)
+  unfolding badLength
+  length-bounds e =
+      let a = or-false (eqb (length t) 0) (not (eqb (length t % 8) 0) || ltb 32776 (length t)) .0 e in
+      let b = or-false (not (eqb (length t % 8) 0)) (ltb 32776 (length t)) .0 (a .1) in
+      omega (arith, eqb-false (length t) 0 (a .0), eqb→eq (length t % 8) 0 (passes (eqb (length t % 8) 0) (b .0)), ltb-false 32776 (length t) (b .1))
+
+  -- Without 3: the chain is within the table, and no record is on it twice.
+  pub sound-distinct : badChain t ≡ false → Distinct (chain t)
+  unfolding badChain
+  sound-distinct e = or-false (any (beyond t) (chain t)) (repeats (chain t)) .0 e .1
+
+  pub sound-within : badChain t ≡ false → (k : ℕ) → Chained t k → (1 ≤ k) × (k < records t)
+  unfolding badChain beyond chain
+  sound-within e k h =
+      let z : k ≡ 0 → ⊥ = λ d. omega (arith, follow-zero (records t) t (nextOf t 0), member-count 0 (chain t) .0 (rw d at h)) in
+      omega (arith, leb-false (records t) k (any-false (beyond t) (chain t) .0 (or-false (any (beyond t) (chain t)) (repeats (chain t)) .0 e .0) k h))
+
+  pub sound-length : badLength t ≡ false → badChain t ≡ false → length (chain t) < records t
+  unfolding repeats
+  sound-length l e =
+      length-below (records t) (0 ∷ chain t) (or-false (member 0 (chain t)) (repeats (chain t)) .1 (T-false (member 0 (chain t)) .0 (λ h. omega (arith, sound-within e 0 h)), sound-distinct e))
+      (λ k h. ⊎-elim (λ (z : k ≡ 0). omega (arith, length-bounds l)) (λ (m : Chained t k). sound-within e k m .1) (member-cons k 0 (chain t) .0 h))
+
+  -- Without 4: the links of chained records are zero or chained.
+  pub sound-links : badLinks t ≡ false → (k : ℕ) (s : Side) → Chained t k → (linkOf t s k ≡ 0) ⊎ Chained t (linkOf t s k)
+  unfolding badLinks stray
+  sound-links e k s h =
+      side s (or-false (stray t (leftOf t k)) (stray t (rightOf t k)) .0 (any-false (λ n. stray t (leftOf t n) || stray t (rightOf t n)) (chain t) .0 e k h))
+    where
+      link : (n : ℕ) → stray t n ≡ false → (n ≡ 0) ⊎ Chained t n
+      link n e =
+          ⊎-map (eqb→eq n 0) (λ (f : beyond t n || not (member n (chain t)) ≡ false). passes (member n (chain t)) (or-false (beyond t n) (not (member n (chain t))) .0 f .1))
+          (unless (eqb n 0) (beyond t n || not (member n (chain t))) e)
+
+      side : (s : Side) → (stray t (leftOf t k) ≡ false) × (stray t (rightOf t k) ≡ false) → (linkOf t s k ≡ 0) ⊎ Chained t (linkOf t s k)
+      side left b = link (leftOf t k) (b .0)
+      side right b = link (rightOf t k) (b .1)
+
+  pub sound-once : any (λ k. not (eqb k (rootOf t)) && not (eqb (named t k) 1)) (chain t) ≡ false → (k : ℕ) → Chained t k → (k ≡ rootOf t) ⊎ (named t k ≡ 1)
+  sound-once e k h =
+      ⊎-map (eqb→eq k (rootOf t)) (λ (f : not (eqb (named t k) 1) ≡ false). eqb→eq (named t k) 1 (passes (eqb (named t k) 1) f))
+      (unless (eqb k (rootOf t)) (not (eqb (named t k) 1)) (any-false (λ n. not (eqb n (rootOf t)) && not (eqb (named t n) 1)) (chain t) .0 e k h))
+
+-- Without 4, and without 5 but for the nodes that are not reached: each chained record is the root or has one parent.
+pub record Parented (t : List ℕ) : Type 0 where
+  pub linked : badLinks t ≡ false
+  pub root : (rootOf t ≡ 0) ⊎ Chained t (rootOf t)
+  pub unnamed : named t (rootOf t) ≡ 0
+  pub once : (k : ℕ) → Chained t k → (k ≡ rootOf t) ⊎ (named t k ≡ 1)
+
+module _ (t : List ℕ) (g : Parented t) where
+  -- A record is counted, as the root and as what chained records name, no more often than it stands on the chain.
+  pub named-within : (x : ℕ) → 0 < x → same x (rootOf t) + named t x ≤ count x (chain t)
+  named-within x h = go (alike x (rootOf t))
+    where
+      top : x ≡ rootOf t → Chained t (rootOf t) → (named t x ≡ 0) × (1 ≤ count x (chain t))
+      top e r = rw e (g .unnamed, member-count (rootOf t) (chain t) .0 r)
+
+      one : (x ≡ rootOf t → ⊥) → Chained t x → named t x ≤ count x (chain t)
+      one n c = ⊎-elim (λ (e : x ≡ rootOf t). absurd (n e)) (λ (e : named t x ≡ 1). omega (arith, member-count x (chain t) .0 c)) (g .once x c)
+
+      other : (x ≡ rootOf t → ⊥) → 1 ≤ named t x → named t x ≤ count x (chain t)
+      other n l =
+          let p = namer t x (chain t) l in
+          ⊎-elim (λ (z : linkOf t (p .1) (p .0) ≡ 0). absurd (omega (arith, p .3))) (λ (c : Chained t (linkOf t (p .1) (p .0))). one n (rw (p .3) at c)) (sound-links t (g .linked) (p .0) (p .1) (p .2))
+
+      go : Alike x (rootOf t) → same x (rootOf t) + named t x ≤ count x (chain t)
+      go (inl e) = ⊎-elim (λ (z : rootOf t ≡ 0). absurd (omega arith)) (λ (r : Chained t (rootOf t)). omega (arith, top (e .0) r)) (g .root)
+      go (inr e) = let z : ¬ (count x (chain t) < named t x) = λ l. omega (arith, other (e .0) (omega arith)) in omega arith
+
+  -- The tree, however many levels of it, stands within the chain.
+  pub nodes-within : (n : ℕ) → Within (nodes (descend n t (rootOf t))) (chain t)
+  unfolding descend nodes count
+  nodes-within zero x = omega arith
+  nodes-within (suc n) zero = omega (arith, nodes-zero (suc n) t (rootOf t))
+  nodes-within (suc n) (suc x) =
+      omega (arith, nodes-deeper n t (rootOf t) x, links-within t (suc x) (nodes (descend n t (rootOf t))) (chain t) (nodes-within n), named-within (suc x) (omega arith))
+
+  pub size-within : (n : ℕ) → size (descend n t (rootOf t)) ≤ length (chain t)
+  size-within n = omega (arith, length-nodes (descend n t (rootOf t)), length-within (nodes (descend n t (rootOf t))) (chain t) (nodes-within n))
+
+  -- Without 1 and 3 besides, its levels are not felt: the records of the tree are the root and what they name.
+  pub nodes-rooted : length (chain t) < records t → (x : ℕ) → count (suc x) (nodes (tree t)) ≡ same (suc x) (rootOf t) + count (suc x) (links t (nodes (tree t)))
+  nodes-rooted h x = rw (descend-more (records t) t (rootOf t) (omega (arith, size-within (records t)))) at (nodes-deeper (records t) t (rootOf t) x)

@@ -1,0 +1,4 @@
+pub mod Lists
+pub mod Chain
+pub mod Causes
+pub mod Accepted

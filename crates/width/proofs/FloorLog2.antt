@@ -1,0 +1,50 @@
+-- floor(log2 n) lies between powers of two: `floor-bounds`, and is the only number that does: `floor-unique`. The allowed width from it: `allowed-some`.
+use mathlib.Core.Path.{_≡_, refl}
+use mathlib.Core.Bool.{Bool, true, false}
+use Prim.Native.Nat.{ℕ, zero, suc, _+_, _*_, _^_, _≤_, _<_}
+use native.Mathlib.Nat.{two-pow-succ, le-antisymm}
+use native.Mathlib.Decide.{decLe}
+use native.Mathlib.Omega.{arith}
+use lib.Dec.{leb}
+use lib.Pow.{pow-mono, pow-pos}
+use borrow.Author.Tests.{leb-true, leb-false, ne-eqb, le-ltb}
+use Rattle.width.specs.Allowed.{greatest, floorLog2, allowedWidth}
+
+-- k is floor(log2 n): 2 to the power k is at most n, and 2 to the power k + 1 is not.
+pub record Between (n k : ℕ) : Type 0 where
+  pub low : 2 ^ k ≤ n
+  pub high : n < 2 ^ suc k
+
+greatest-between : (n m : ℕ) → 1 ≤ n → n < 2 ^ suc m → Between n (greatest n m)
+unfolding greatest
+greatest-between n zero one h = record { low = one; high = h }
+greatest-between n (suc m) one h = go (leb (2 ^ suc m) n) refl (greatest-between n m one)
+  where
+    go : (b : Bool) → leb (2 ^ suc m) n ≡ b → (n < 2 ^ suc m → Between n (greatest n m)) → Between n (elim b [ true ↦ suc m | false ↦ greatest n m ])
+    go true e below = record { low = leb-true _ _ e; high = h }
+    go false e below = below (leb-false _ _ e)
+
+-- No power of two is at most its exponent.
+pub below-power : (n : ℕ) → n < 2 ^ n
+below-power zero = pow-pos zero
+below-power (suc n) = omega (arith, below-power n, two-pow-succ n)
+
+pub floor-bounds : (n : ℕ) → 1 ≤ n → Between n (floorLog2 n)
+unfolding floorLog2
+floor-bounds n one = greatest-between n n one (omega (arith, below-power n, two-pow-succ n))
+
+-- Of two such numbers neither is above the other.
+not-above : {n j k : ℕ} → Between n j → Between n k → j ≤ k
+not-above {n} {j} {k} a b = go (decLe j k)
+  where
+    go : Dec (j ≤ k) → j ≤ k
+    go (yes h) = h
+    go (no h) = absurd (let above : suc k ≤ j = omega arith in let p : 2 ^ suc k ≤ 2 ^ j = pow-mono above in omega (arith, a .low, b .high))
+
+pub floor-unique : {n k : ℕ} → 1 ≤ n → Between n k → k ≡ floorLog2 n
+floor-unique {n} one b = le-antisymm (not-above b (floor-bounds n one)) (not-above (floor-bounds n one) b)
+
+-- The allowed width where it is not 0.
+pub allowed-some : (n : ℕ) → 1 ≤ n → n ≤ 4096 → allowedWidth n ≡ 3 * floorLog2 n + 1
+unfolding allowedWidth
+allowed-some n one most = simp (ne-eqb n 0 (λ e. omega arith), le-ltb 4096 n most)

@@ -1,0 +1,2 @@
+-- Laws of the allowed width.
+pub mod FloorLog2
