@@ -13,7 +13,7 @@ use Rattle.layout.specs.Drawing.{Part, part, join, Rest, place}
 use Rattle.layout.proofs.Clean.{Rooted, rooted}
 use Rattle.layout.proofs.Points.{PointOf, bare, UntangledAt, order-at, point-rooted, rooted-high}
 use Rattle.layout.proofs.Motions.{untangled-shift, shift-within, width-shift, root-shift}
-use Rattle.layout.proofs.Shape.{shape, count, HoldsRow}
+use Rattle.layout.proofs.Rows.{shape, count, HoldsRow}
 use Rattle.layout.proofs.Steps.{Hung, Run, Knee, OrderOn, step-knee-right, step-knee-left, step-ordinary, step-switch}
 
 -- What is proved of the drawing D of a tree S.

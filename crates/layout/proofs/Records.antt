@@ -4,45 +4,43 @@ use mathlib.Core.Path.{_≡_, refl, ap, sym, subst, subst₂, _∙_}
 use mathlib.Core.Logic.{_⊎_, ⊎-map, _≢_}
 use Prim.Native.Nat.{ℕ, _+_, _*_, _≤_, _<_}
 use Rattle.segment.specs.declared.Point.{Point}
-use Rattle.segment.specs.Segment.{On, Is}
+use Rattle.segment.specs.Segment.{On}
 use Rattle.table.specs.Table.{Side, left, right}
 use Rattle.table.specs.Tree.{Tree, node}
 use Rattle.layout.specs.Layout.{Layout, placed}
 use Rattle.layout.specs.Drawing.{draw}
 use Rattle.layout.proofs.Clean.{Rooted, rooted, root, edge, below, Node, Edge, top, point, recordOf, parent, child, side, Ends, OnEdge, Before, Clean}
-use Rattle.layout.proofs.Shape.{shape}
-use Rattle.layout.proofs.Theorem.{draw-good}
-
--- The subtree on a side.
-abbrev pub treeOn : Side → Tree → Tree → Tree
-treeOn left a b = a
-treeOn right a b = b
+use Rattle.layout.proofs.Rows.{shape}
+use Rattle.layout.proofs.Theorem.{promise}
 
 -- The record k is a node of the tree.
-pub data HasNode (k : ℕ) : Tree → Type 0 where
-  node-here : {a b : Tree} → HasNode k (node k a b)
-  node-below : {i : ℕ} {a b : Tree} (s : Side) → HasNode k (treeOn s a b) → HasNode k (node i a b)
+pub data IsNode (k : ℕ) : Tree → Type 0 where
+  node-here : {a b : Tree} → IsNode k (node k a b)
+  node-left : {i : ℕ} {a b : Tree} → IsNode k a → IsNode k (node i a b)
+  node-right : {i : ℕ} {a b : Tree} → IsNode k b → IsNode k (node i a b)
 
 -- The record c is its root.
-pub data HasRoot (c : ℕ) : Tree → Type 0 where
-  root-here : {a b : Tree} → HasRoot c (node c a b)
+pub data Root (c : ℕ) : Tree → Type 0 where
+  root-here : {a b : Tree} → Root c (node c a b)
 
 -- The record c is the child of the record k on the side s.
-pub data HasEdge (k c : ℕ) (s : Side) : Tree → Type 0 where
-  edge-here : {a b : Tree} → HasRoot c (treeOn s a b) → HasEdge k c s (node k a b)
-  edge-below : {i : ℕ} {a b : Tree} (u : Side) → HasEdge k c s (treeOn u a b) → HasEdge k c s (node i a b)
+pub data Child (k c : ℕ) : Side → Tree → Type 0 where
+  left-child : {a b : Tree} → Root c a → Child k c left (node k a b)
+  right-child : {a b : Tree} → Root c b → Child k c right (node k a b)
+  child-left : {i : ℕ} {s : Side} {a b : Tree} → Child k c s a → Child k c s (node i a b)
+  child-right : {i : ℕ} {s : Side} {a b : Tree} → Child k c s b → Child k c s (node i a b)
 
 pub record Checked (t : Tree) (plan : ℕ → Point) : Type 0 where
   -- 21
-  pub distinct : (k m : ℕ) → HasNode k t → HasNode m t → k ≢ m → plan k ≢ plan m
+  pub distinct : (k m : ℕ) → IsNode k t → IsNode m t → k ≢ m → plan k ≢ plan m
   -- 22
-  pub lower : (k c : ℕ) (s : Side) → HasEdge k c s t → plan k .row < plan c .row
+  pub lower : (k c : ℕ) (s : Side) → Child k c s t → plan k .row < plan c .row
   -- 23
-  pub planar : (k c m d : ℕ) (s u : Side) → HasEdge k c s t → HasEdge m d u t → ¬ ((k ≡ m) × (c ≡ d)) → (q x y : ℕ) → 1 ≤ q → On (plan k) (plan c) q x y → On (plan m) (plan d) q x y →
-      (b : ℕ) × ((b ≡ k) ⊎ (b ≡ c)) × ((b ≡ m) ⊎ (b ≡ d)) × Is (plan b) q x y
-  pub clear : (b k c : ℕ) (s : Side) → HasNode b t → HasEdge k c s t → (q : ℕ) → 1 ≤ q → On (plan k) (plan c) q (q * plan b .column) (q * plan b .row) → (b ≡ k) ⊎ (b ≡ c)
+  pub planar : (k c m d : ℕ) (s u : Side) → Child k c s t → Child m d u t → ¬ ((k ≡ m) × (c ≡ d)) → (q x y : ℕ) → 1 ≤ q → On (plan k) (plan c) q x y → On (plan m) (plan d) q x y →
+      (b : ℕ) × ((b ≡ k) ⊎ (b ≡ c)) × ((b ≡ m) ⊎ (b ≡ d)) × (x ≡ q * plan b .column) × (y ≡ q * plan b .row)
+  pub clear : (b k c : ℕ) (s : Side) → IsNode b t → Child k c s t → (q : ℕ) → 1 ≤ q → On (plan k) (plan c) q (q * plan b .column) (q * plan b .row) → (b ≡ k) ⊎ (b ≡ c)
   -- 24
-  pub ordered : (k a b : ℕ) → HasEdge k a left t → HasEdge k b right t → Before (plan k) (plan a) (plan b)
+  pub ordered : (k a b : ℕ) → Child k a left t → Child k b right t → Before (plan k) (plan a) (plan b)
 
 -- The plan gives each node its point.
 abbrev pub Agrees : (ℕ → Point) → Layout → Type 0
@@ -60,22 +58,22 @@ record AsEdge (k c : ℕ) (s : Side) (L : Layout) : Type 0 where
   to : recordOf (child l) ≡ c
   on : side l ≡ s
 
-as-node : (k : ℕ) (L : Layout) → HasNode k (shape L) → AsNode k L
+as-node : (k : ℕ) (L : Layout) → IsNode k (shape L) → AsNode k L
 unfolding shape
 as-node k (placed i P a b) node-here = record { n = root; is = refl }
-as-node k (placed i P a b) (node-below left h) = let z = as-node k a h in record { n = below left (z .n); is = z .is }
-as-node k (placed i P a b) (node-below right h) = let z = as-node k b h in record { n = below right (z .n); is = z .is }
+as-node k (placed i P a b) (node-left h) = let z = as-node k a h in record { n = below left (z .n); is = z .is }
+as-node k (placed i P a b) (node-right h) = let z = as-node k b h in record { n = below right (z .n); is = z .is }
 
-as-root : (c : ℕ) (L : Layout) → HasRoot c (shape L) → (h : Rooted L) × (recordOf (top h) ≡ c)
+as-root : (c : ℕ) (L : Layout) → Root c (shape L) → (h : Rooted L) × (recordOf (top h) ≡ c)
 unfolding shape
 as-root c (placed k P a b) root-here = (rooted, refl)
 
-as-edge : (k c : ℕ) (s : Side) (L : Layout) → HasEdge k c s (shape L) → AsEdge k c s L
+as-edge : (k c : ℕ) (s : Side) (L : Layout) → Child k c s (shape L) → AsEdge k c s L
 unfolding shape
-as-edge k c left (placed i P a b) (edge-here h) = let z = as-root c a h in record { l = edge left (z .0); from = refl; to = z .1; on = refl }
-as-edge k c right (placed i P a b) (edge-here h) = let z = as-root c b h in record { l = edge right (z .0); from = refl; to = z .1; on = refl }
-as-edge k c s (placed i P a b) (edge-below left h) = let z = as-edge k c s a h in record { l = below left (z .l); from = z .from; to = z .to; on = z .on }
-as-edge k c s (placed i P a b) (edge-below right h) = let z = as-edge k c s b h in record { l = below right (z .l); from = z .from; to = z .to; on = z .on }
+as-edge k c s (placed i P a b) (left-child h) = let z = as-root c a h in record { l = edge left (z .0); from = refl; to = z .1; on = refl }
+as-edge k c s (placed i P a b) (right-child h) = let z = as-root c b h in record { l = edge right (z .0); from = refl; to = z .1; on = refl }
+as-edge k c s (placed i P a b) (child-left h) = let z = as-edge k c s a h in record { l = below left (z .l); from = z .from; to = z .to; on = z .on }
+as-edge k c s (placed i P a b) (child-right h) = let z = as-edge k c s b h in record { l = below right (z .l); from = z .from; to = z .to; on = z .on }
 
 -- ---- from the layout to the plan
 
@@ -105,7 +103,7 @@ module _ (plan : ℕ → Point) (L : Layout) (fit : Agrees plan L) (z : Clean L)
         let f = as-edge m d u L i in
         let w = z .planar (e .l) (f .l) (λ j. ne (sym (e .from) ∙ (ap (λ l. recordOf (parent l)) j ∙ f .from), sym (e .to) ∙ (ap (λ l. recordOf (child l)) j ∙ f .to))) q x y one
         (along e o) (along f p) in
-        (recordOf (w .0), ends e (w .0) (w .1), ends f (w .0) (w .2), subst (λ (P : Point). Is P q x y) (sym (fit (w .0))) (w .3));
+        (recordOf (w .0), ends e (w .0) (w .1), ends f (w .0) (w .2), rw fit (w .3 .in-column), rw fit (w .3 .in-row));
     clear = λ b k c s h i q one o.
         let n = as-node b L h in
         let e = as-edge k c s L i in
@@ -119,4 +117,4 @@ module _ (plan : ℕ → Point) (L : Layout) (fit : Agrees plan L) (z : Clean L)
   }
 
 pub drawn-checked : (t : Tree) (plan : ℕ → Point) → Agrees plan (draw t) → Checked t plan
-drawn-checked t plan fit = let g = draw-good t in subst (λ (s : Tree). Checked s plan) (g .same-tree) (clean-checked plan (draw t) fit (g .clean))
+drawn-checked t plan fit = let g = promise t in subst (λ (s : Tree). Checked s plan) (g .same) (clean-checked plan (draw t) fit (g .clean))

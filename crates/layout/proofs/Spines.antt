@@ -12,8 +12,9 @@ use Rattle.table.specs.Tree.{Tree, none, node, size}
 use Rattle.layout.specs.Layout.{Layout, blank, placed, width, shift, flip, mirror}
 use Rattle.layout.specs.Spine.{SpineNode, hangs, spine, Role, knee, ordinary, switch, opposite, seen, runRole, roleAfter, handAfter, assigned, rolesAfter, roles}
 use Rattle.layout.specs.Drawing.{Part, part, hang, widest, join, Rest, place}
+use Rattle.layout.specs.Held.{facing}
 use Rattle.layout.proofs.Clean.{Rooted, rooted}
-use Rattle.layout.proofs.Shape.{shape, mirror-twice, size-mirror, facing, shape-shift, shape-flip}
+use Rattle.layout.proofs.Rows.{shape, mirror-twice, size-mirror, shape-shift, shape-flip}
 use Rattle.layout.proofs.Along.{Drawn, Stretch, turn, run, Beside, on-right, nothing, Proper, ended, a-knee, an-ordinary, a-switch}
 
 -- ---- spine nodes
