@@ -11,3 +11,5 @@ pub mod Spines
 pub mod Whole
 pub mod Theorem
 pub mod Records
+pub mod Sides
+pub mod Held

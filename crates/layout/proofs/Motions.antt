@@ -67,6 +67,12 @@ unfolding shift width
 width-shift e t blank = omega arith
 width-shift e t (placed k P a b) = omega (arith, width-shift e t a, width-shift e t b)
 
+-- A drawing from column e on, where column e is reached anyway.
+pub width-shifted : (e t z : ℕ) (L : Layout) → e ≤ z → width (shift e t L) ≤ z → e + width L ≤ z
+unfolding shift width
+width-shifted e t z blank h i = omega arith
+width-shifted e t z (placed k P a b) h i = omega (arith, width-shifted e t z a h (omega arith), width-shifted e t z b h (omega arith))
+
 pub height-shift : (e t : ℕ) (L : Layout) → height (shift e t L) ≤ t + height L
 unfolding shift height
 height-shift e t blank = omega arith

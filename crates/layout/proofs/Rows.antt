@@ -6,6 +6,7 @@ use Rattle.segment.specs.declared.Point.{Point}
 use Rattle.table.specs.Table.{Side, left, right}
 use Rattle.table.specs.Tree.{Tree, none, node, size}
 use Rattle.layout.specs.Layout.{Layout, blank, placed, shift, flip, mirror}
+use Rattle.layout.specs.Held.{facing}
 use Rattle.layout.proofs.Clean.{onSide, Node, root, below, point}
 
 -- The tree of which it is a layout.
@@ -29,6 +30,11 @@ pub size-mirror : (t : Tree) → size (mirror t) ≡ size t
 unfolding mirror size
 size-mirror none = refl
 size-mirror (node k a b) = omega (arith, size-mirror a, size-mirror b)
+
+pub size-facing : (s : Side) (t : Tree) → size (facing s t) ≡ size t
+unfolding facing
+size-facing left t = refl
+size-facing right t = size-mirror t
 
 pub shape-shift : (e t : ℕ) (L : Layout) → shape (shift e t L) ≡ shape L
 unfolding shift shape

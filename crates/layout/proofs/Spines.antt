@@ -61,6 +61,39 @@ unfolding seen
 size-seen left l = refl
 size-seen right (hangs k s t) = size-mirror t
 
+pub size-over : (l : SpineNode) (t : Tree) → size (over l t) ≡ suc (size (hungTree l) + size t)
+unfolding over size
+size-over (hangs k left u) t = refl
+size-over (hangs k right u) t = omega arith
+
+-- A spine is light as a side sees it, and so as it stands.
+pub light-seen : (n : ℕ) (s : Side) (ls : List SpineNode) → Light n (map (seen s) ls) → Light n ls
+unfolding spineTree
+light-seen n s [] z = light-end
+light-seen n s (l ∷ ls) (light-node f g z) = light-node {l = l} {ls = ls} (omega (arith, size-seen s l)) (omega (arith, size-seen s l, same ls)) (light-seen n s ls z)
+  where
+    same : (ls : List SpineNode) → size (spineTree (map (seen s) ls)) ≡ size (spineTree ls)
+    same [] = refl
+    same (m ∷ ms) = omega (arith, size-over (seen s m) (spineTree (map (seen s) ms)), size-over m (spineTree ms), size-seen s m, same ms)
+
+-- A switch is followed by a node, since what hangs from it has no more nodes than the rest of the spine.
+abbrev pub Goes : Role → List SpineNode → Type 0
+Goes knee ls = Unit {0}
+Goes ordinary ls = Unit {0}
+Goes switch ls = 1 ≤ size (spineTree ls)
+
+goes-run : (l : SpineNode) (ls : List SpineNode) → size (hungTree l) ≤ size (spineTree ls) → Goes (runRole l) ls
+unfolding runRole size
+goes-run (hangs k left none) ls h = tt
+goes-run (hangs k left (node i a b)) ls h = omega arith
+goes-run (hangs k right t) ls h = tt
+
+pub goes-on : (o : Role) (l : SpineNode) (ls : List SpineNode) → size (hungTree l) ≤ size (spineTree ls) → Goes (roleAfter o l) ls
+unfolding roleAfter
+goes-on knee l ls h = goes-run l ls h
+goes-on ordinary l ls h = goes-run l ls h
+goes-on switch l ls h = tt
+
 -- ---- the roles
 
 -- The parts that follow a node of role o on the hand s.

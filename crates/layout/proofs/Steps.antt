@@ -65,7 +65,7 @@ unfolding join
 joined k left d n j o = record { untangled = fork (d .untangled) (n .untangled) j o; root = refl }
 joined k right d n j o = record { untangled = fork (n .untangled) (d .untangled) (exchange j) o; root = refl }
 
-wide-join : (k : ℕ) (P : Point) (s : Side) (D N : Layout) → width (join k P s D N) ≡ max (suc (P .column)) (max (width D) (width N))
+pub wide-join : (k : ℕ) (P : Point) (s : Side) (D N : Layout) → width (join k P s D N) ≡ max (suc (P .column)) (max (width D) (width N))
 unfolding join width
 wide-join k P left D N = refl
 wide-join k P right D N = omega arith

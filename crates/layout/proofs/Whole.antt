@@ -47,43 +47,44 @@ few-rows (placed k P a b) h = omega (arith, h .fits, h .few)
 abbrev pub whole : List Part → Layout
 whole ps = place (widest ps) 0 0 0 ps .drawn
 
-pub parts-drawn : (d : Tree → Layout) (t : Tree) → ((S : Tree) → 2 * size S + 1 ≤ size t → Drawn S (d S)) → Drawn t (whole (parts d right switch (spine t)))
-unfolding facing handAfter opposite
-parts-drawn d t hd = record { same = same; stands = kn .stands; narrow = narrow; short = few-rows N rs; filled = filled }
-  where
-    ps : List Part
-    ps = parts d right switch (spine t)
+module _ (d : Tree → Layout) (t : Tree) (hd : (S : Tree) → 2 * size S + 1 ≤ size t → Drawn S (d S)) where
+  abbrev ps : List Part
+  ps = parts d right switch (spine t)
 
-    W : ℕ
-    W = widest ps
+  light : Light (size t) (spine t)
+  light = light-spine (size t) t (omega arith)
 
-    N : Layout
-    N = whole ps
+  roles-proper : Proper (widest ps) turn ps
+  roles-proper = proper (size t) (widest ps) d hd right switch light (omega arith)
 
-    light : Light (size t) (spine t)
-    light = light-spine (size t) t (omega arith)
+  pub parts-rows : TurnRows 0 (last 0 0 0 ps) (whole ps)
+  parts-rows = rows (widest ps) 0 0 0 roles-proper (omega arith) refl
 
-    pr : Proper W turn ps
-    pr = proper (size t) W d hd right switch light (omega arith)
+  pub parts-drawn : Drawn t (whole ps)
+  unfolding facing handAfter opposite
+  parts-drawn = record { same = same; stands = kn .stands; narrow = narrow; short = few-rows N parts-rows; filled = filled }
+    where
+      W : ℕ
+      W = widest ps
 
-    kn : Knee W 0 0 N
-    kn = along W 0 0 0 pr (omega arith)
+      N : Layout
+      N = whole ps
 
-    rs : TurnRows 0 (last 0 0 0 ps) N
-    rs = rows W 0 0 0 pr (omega arith) refl
+      kn : Knee W 0 0 N
+      kn = along W 0 0 0 roles-proper (omega arith)
 
-    same : shape N ≡ t
-    same = shaped (size t) W d hd right switch light 0 0 0 ∙ tree-spine t
+      same : shape N ≡ t
+      same = shaped (size t) W d hd right switch light 0 0 0 ∙ tree-spine t
 
-    filled : (j : ℕ) → j < height N → HoldsRow N j
-    filled zero h = top-row N (kn .stands .root) h
-    filled (suc j) h = rs .filled (suc j) (omega arith) (omega (arith, rs .fits))
+      filled : (j : ℕ) → j < height N → HoldsRow N j
+      filled zero h = top-row N (kn .stands .root) h
+      filled (suc j) h = parts-rows .filled (suc j) (omega arith) (omega (arith, parts-rows .fits))
 
-    narrow : (k : ℕ) → size t < 2 ^ suc k → width N ≤ 3 * k + 1
-    narrow zero h = one-node N (kn .stands .root) (omega (arith, ap size same))
-    narrow (suc k) h =
-        let w : W ≤ 3 * k + 1 = widest-at-most (size t) W d hd (3 * k + 1) (λ S i. hd S i .narrow k (omega (arith, pow-suc 2 (suc k)))) right switch light in
-        omega (arith, kn .wide)
+      narrow : (k : ℕ) → size t < 2 ^ suc k → width N ≤ 3 * k + 1
+      narrow zero h = one-node N (kn .stands .root) (omega (arith, ap size same))
+      narrow (suc k) h =
+          let w : W ≤ 3 * k + 1 = widest-at-most (size t) W d hd (3 * k + 1) (λ S i. hd S i .narrow k (omega (arith, pow-suc 2 (suc k)))) right switch light in
+          omega (arith, kn .wide)
 
 steps-drawn : (d : Tree → Layout) (t : Tree) → ((S : Tree) → 2 * size S + 1 ≤ size t → Drawn S (d S)) → Drawn t (steps d t)
 unfolding steps
@@ -139,3 +140,7 @@ draw-law (node k a b) = steps-same (drawing (size a + size b)) draw (node k a b)
 pub draw-parts : (t : Tree) → draw t ≡ whole (parts draw right switch (spine t))
 unfolding steps
 draw-parts t = draw-law t ∙ ap (λ (rs : List Assigned). whole (map (hang draw) rs)) (first-knee (spine t))
+
+-- The rows of a drawing, by the parts of its spine.
+pub draw-rows : (t : Tree) → TurnRows 0 (last 0 0 0 (parts draw right switch (spine t))) (draw t)
+draw-rows t = subst (TurnRows 0 (last 0 0 0 (parts draw right switch (spine t)))) (sym (draw-parts t)) (parts-rows draw t (λ S h. drawn S))
