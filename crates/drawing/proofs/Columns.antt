@@ -7,33 +7,24 @@ use lib.Dec.{T}
 use Rattle.table.specs.Table.{Side, left, right}
 use Rattle.layout.specs.Spine.{opposite}
 use Rattle.layout.specs.Held.{inwards, far}
+use Rattle.layout.proofs.Held.{Inside}
 use Rattle.measure.specs.Forked.{sideOf}
-use Rattle.drawing.specs.Placing.{Columns}
 
-pub columns-less : (a : Side) (e m n : ℕ) → n ≤ m → Columns a e m → Columns a e n
-columns-less left e m n h c = omega arith
-columns-less right e m n h c = (omega arith, c .1)
+pub inside-edge : (a : Side) (e n : ℕ) → Inside 65536 a e (suc n) → e < 65536
+inside-edge left e n c = omega arith
+inside-edge right e n c = omega arith
 
-pub columns-edge : (a : Side) (e n : ℕ) → Columns a e (suc n) → e < 65536
-columns-edge left e n c = omega arith
-columns-edge right e n c = c .1
+pub inside-count : (a : Side) (e n : ℕ) → Inside 65536 a e n → n ≤ 65536
+inside-count left e n c = omega arith
+inside-count right e n c = omega arith
 
-pub columns-count : (a : Side) (e n : ℕ) → Columns a e n → n ≤ 65536
-columns-count left e n c = omega arith
-columns-count right e n c = omega arith
-
-pub columns-in : (a : Side) (e k n : ℕ) → Columns a e (k + suc n) → Columns a (inwards a e k) (suc n)
-unfolding inwards
-columns-in left e k n c = omega arith
-columns-in right e k n c = (omega arith, omega arith)
-
--- The other hand has as many columns, and this hand's edge is as far from there.
-pub columns-over : (a : Side) (e w n : ℕ) → n ≤ suc w → Columns a e (suc w) → Columns (opposite a) (inwards a e w) n
+-- The other hand's edge is there, and this hand's is as far from it.
+pub over-edge : (a : Side) (e w : ℕ) → Inside 65536 a e (suc w) → Inside 65536 (opposite a) (inwards a e w) 1
 unfolding inwards opposite
-columns-over left e w n h c = (omega arith, omega arith)
-columns-over right e w n h c = omega arith
+over-edge left e w c = (omega arith, omega arith)
+over-edge right e w c = omega arith
 
-pub over-back : (a : Side) (e w : ℕ) → Columns a e (suc w) → inwards (opposite a) (inwards a e w) w ≡ e
+pub over-back : (a : Side) (e w : ℕ) → Inside 65536 a e (suc w) → inwards (opposite a) (inwards a e w) w ≡ e
 unfolding inwards opposite
 over-back left e w c = omega arith
 over-back right e w c = omega arith
@@ -45,12 +36,12 @@ unfolding opposite
 side-not true = refl
 side-not false = refl
 
-pub inwards-right : (b : Bool) (e k : ℕ) → b ≡ true → Columns (sideOf b) e (k + 1) → (k ≤ e) × ((e - k ≡ inwards (sideOf b) e k) × (e - k < 65536))
+pub inwards-right : (b : Bool) (e k : ℕ) → b ≡ true → Inside 65536 (sideOf b) e (k + 1) → (k ≤ e) × ((e - k ≡ inwards (sideOf b) e k) × (e - k < 65536))
 unfolding inwards
 inwards-right true e k h c = (omega arith, (refl, omega arith))
 inwards-right false e k h c = absurd (subst T (sym h) tt)
 
-pub inwards-left : (b : Bool) (e k : ℕ) → b ≡ false → Columns (sideOf b) e (k + 1) → (e + k < 65536) × (e + k ≡ inwards (sideOf b) e k)
+pub inwards-left : (b : Bool) (e k : ℕ) → b ≡ false → Inside 65536 (sideOf b) e (k + 1) → (e + k < 65536) × (e + k ≡ inwards (sideOf b) e k)
 unfolding inwards
 inwards-left false e k h c = (omega arith, refl)
 inwards-left true e k h c = absurd (subst T h tt)

@@ -5,5 +5,4 @@ pub mod Shapes
 pub mod Columns
 pub mod Onward
 pub mod Walking
-pub mod Needed
 pub mod Starting

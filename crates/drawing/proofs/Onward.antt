@@ -15,12 +15,13 @@ use Rattle.layout.specs.Layout.{Layout, blank}
 use Rattle.layout.specs.Spine.{SpineNode, hangs, Role, knee, ordinary, switch, opposite, seen, runRole, roleAfter, handAfter}
 use Rattle.layout.specs.Drawing.{Rest, join}
 use Rattle.layout.specs.Held.{inwards, hungOn, heightOn, widthOn, spineOn, roleNext, far, lay}
+use Rattle.layout.proofs.Held.{bottom, Inside, Rooms, knee-room, ordinary-room, switch-room, inside-less}
 use Rattle.measure.specs.Prepared.{codeOf, Prepared, Along, no-spine, onward}
 use Rattle.drawing.specs.Answer.{store}
-use Rattle.drawing.specs.Placing.{isSwitch, point, Columns, deepest, Room, kept, finish, finished, Ready}
+use Rattle.drawing.specs.Placing.{isSwitch, point, kept, finish, finished, Ready}
 use Rattle.drawing.proofs.Store.{Apart, store-comm, store-join}
 use Rattle.drawing.proofs.Shapes.{Disjoint, treeOf, hung-none, height-none, width-none, shape-hung, shape-lay}
-use Rattle.drawing.proofs.Columns.{columns-less, columns-over, over-back}
+use Rattle.drawing.proofs.Columns.{over-edge, over-back}
 
 -- ---- what is pending
 
@@ -113,29 +114,29 @@ module _ (W : ℕ) (a : Side) (e H r k : ℕ) (s : Side) (S Q : Tree) (ls : List
   abbrev drawn-both : List ℕ
   drawn-both = store (hungOn a (inwards a e 1) (r + heightOn a S + 1) Q) (store (hungOn a (inwards a e 1) (r + 1) S) (point k (inwards a e 1) r p))
 
-  pub switch-over : Columns a e (W + 3) → Disjoint Q (treeOf ls) →
+  pub switch-over : Inside 65536 a e (W + 3) → Disjoint Q (treeOf ls) →
       finished W (opposite a) f (roleNext (opposite a) switch ls) (r + heightOn a S + heightOn a Q) (r + 1) none ls drawn-both ≡ finished W a e switch H r Q (hangs k s S ∷ ls) p
   unfolding lay finish finished kept
-  switch-over c apart′ = finished-none W (opposite a) f _ _ _ ls _ ∙ (ap (λ (g : ℕ). store (after-switch g .drawn) drawn-both) (over-back a e (W + 2) (columns-less a e _ _ (omega arith) c))
+  switch-over c apart′ = finished-none W (opposite a) f _ _ _ ls _ ∙ (ap (λ (g : ℕ). store (after-switch g .drawn) drawn-both) (over-back a e (W + 2) (inside-less 65536 a e (omega arith) c))
       ∙ (sym (store-comm _ _ _ (apart-laid a (opposite a) _ f e _ _ _ _ _ Q ls apart′))
       ∙ ap (store (hungOn a (inwards a e 1) (r + heightOn a S + 1) Q)) (sym (store-join k (at (inwards a e 1) r) s _ _ p (apart-laid a (opposite a) _ f e _ _ _ _ _ S ls apart)))))
 
 -- ---- the first row below
 
-pub deepest-far : (a s : Side) (H r p k : ℕ) (S : Tree) (ls : List SpineNode) → far a s ≡ true →
-    deepest a (roleNext a knee ls) (max H r + heightOn a S) (max H r + heightOn a S + 1) (heightOn a none) ls ≡ deepest a knee H r p (hangs k s S ∷ ls)
-unfolding deepest
-deepest-far a s H r p k S ls h = rw (h, height-none a, deepest)
+pub bottom-far : (a s : Side) (H r p k : ℕ) (S : Tree) (ls : List SpineNode) → far a s ≡ true →
+    bottom a (roleNext a knee ls) (max H r + heightOn a S) (max H r + heightOn a S + 1) (heightOn a none) ls ≡ bottom a knee H r p (hangs k s S ∷ ls)
+unfolding bottom
+bottom-far a s H r p k S ls h = rw (h, height-none a, bottom)
 
-pub deepest-near : (a s : Side) (H r p k : ℕ) (S : Tree) (ls : List SpineNode) → far a s ≡ false →
-    deepest a (roleNext a knee ls) (max H r) (max H r + 1) (heightOn a S) ls ≡ deepest a knee H r p (hangs k s S ∷ ls)
-unfolding deepest
-deepest-near a s H r p k S ls h = rw (h, deepest)
+pub bottom-near : (a s : Side) (H r p k : ℕ) (S : Tree) (ls : List SpineNode) → far a s ≡ false →
+    bottom a (roleNext a knee ls) (max H r) (max H r + 1) (heightOn a S) ls ≡ bottom a knee H r p (hangs k s S ∷ ls)
+unfolding bottom
+bottom-near a s H r p k S ls h = rw (h, bottom)
 
-pub deepest-over : (a s : Side) (H r p k : ℕ) (S : Tree) (ls : List SpineNode) →
-    deepest (opposite a) (roleNext (opposite a) switch ls) (r + heightOn a S + p) (r + 1) (heightOn (opposite a) none) ls ≡ deepest a switch H r p (hangs k s S ∷ ls)
-unfolding deepest
-deepest-over a s H r p k S ls = rw (height-none (opposite a))
+pub bottom-over : (a s : Side) (H r p k : ℕ) (S : Tree) (ls : List SpineNode) →
+    bottom (opposite a) (roleNext (opposite a) switch ls) (r + heightOn a S + p) (r + 1) (heightOn (opposite a) none) ls ≡ bottom a switch H r p (hangs k s S ∷ ls)
+unfolding bottom
+bottom-over a s H r p k S ls = rw (height-none (opposite a))
 
 -- What is used so far is above it: from a knee on, and in a run from the lowest row on.
 abbrev Low : Role → (H r : ℕ) → List SpineNode → Type 0
@@ -162,20 +163,20 @@ unfolding roleNext roleAfter
 low-over a H r [] = tt
 low-over a H r (l ∷ ls) = tt
 
-deepest-low : (a : Side) (o : Role) (H r p : ℕ) (ls : List SpineNode) → Low o H r ls → H + 1 ≤ deepest a o H r p ls
-unfolding deepest
-deepest-low a o H r p [] h = omega arith
-deepest-low a knee H r p (hangs k s S ∷ ls) h =
+bottom-low : (a : Side) (o : Role) (H r p : ℕ) (ls : List SpineNode) → Low o H r ls → H + 1 ≤ bottom a o H r p ls
+unfolding bottom
+bottom-low a o H r p [] h = omega arith
+bottom-low a knee H r p (hangs k s S ∷ ls) h =
     go (far a s) refl
-    (deepest-low a _ (max H r + heightOn a S) (max H r + heightOn a S + 1) (heightOn a none) ls (low-run a knee _ _ ls refl (omega arith)))
-    (deepest-low a _ (max H r) (max H r + 1) (heightOn a S) ls (low-run a knee _ _ ls refl (omega arith)))
+    (bottom-low a _ (max H r + heightOn a S) (max H r + heightOn a S + 1) (heightOn a none) ls (low-run a knee _ _ ls refl (omega arith)))
+    (bottom-low a _ (max H r) (max H r + 1) (heightOn a S) ls (low-run a knee _ _ ls refl (omega arith)))
   where
-    go : (b : Bool) → far a s ≡ b → max H r + heightOn a S + 1 ≤ deepest a (roleNext a knee ls) (max H r + heightOn a S) (max H r + heightOn a S + 1) (heightOn a none) ls →
-        max H r + 1 ≤ deepest a (roleNext a knee ls) (max H r) (max H r + 1) (heightOn a S) ls → H + 1 ≤ deepest a knee H r p (hangs k s S ∷ ls)
-    go true e i j = omega (arith, deepest-far a s H r p k S ls e)
-    go false e i j = omega (arith, deepest-near a s H r p k S ls e)
-deepest-low a ordinary H r p (hangs k s S ∷ ls) h = omega (arith, deepest-low a _ (r + heightOn a S) (r + max 1 (heightOn a S)) p ls (low-run a ordinary _ _ ls refl (omega arith)))
-deepest-low a switch H r p (hangs k s S ∷ ls) h = omega (arith, deepest-low (opposite a) _ (r + heightOn a S + p) (r + 1) 0 ls (low-over (opposite a) _ _ ls))
+    go : (b : Bool) → far a s ≡ b → max H r + heightOn a S + 1 ≤ bottom a (roleNext a knee ls) (max H r + heightOn a S) (max H r + heightOn a S + 1) (heightOn a none) ls →
+        max H r + 1 ≤ bottom a (roleNext a knee ls) (max H r) (max H r + 1) (heightOn a S) ls → H + 1 ≤ bottom a knee H r p (hangs k s S ∷ ls)
+    go true e i j = omega (arith, bottom-far a s H r p k S ls e)
+    go false e i j = omega (arith, bottom-near a s H r p k S ls e)
+bottom-low a ordinary H r p (hangs k s S ∷ ls) h = omega (arith, bottom-low a _ (r + heightOn a S) (r + max 1 (heightOn a S)) p ls (low-run a ordinary _ _ ls refl (omega arith)))
+bottom-low a switch H r p (hangs k s S ∷ ls) h = omega (arith, bottom-low (opposite a) _ (r + heightOn a S + p) (r + 1) 0 ls (low-over (opposite a) _ _ ls))
 
 -- ---- drawing can go on
 
@@ -189,48 +190,70 @@ pub along-next : {roles gaps : List ℕ} {a s : Side} {o : Role} {k : ℕ} {S : 
     Along roles gaps (handAfter o a) (roleNext (handAfter o a) o ls) ls
 along-next (onward c q n) = n
 
+module _ {B W : ℕ} {a s : Side} {e f k : ℕ} {S : Tree} {ls : List SpineNode} where
+  pub at-knee-room : Rooms B W a e f knee (hangs k s S ∷ ls) → Inside B a e (1 + widthOn a S)
+  at-knee-room (knee-room i n) = i
+
+  pub after-knee-room : Rooms B W a e f knee (hangs k s S ∷ ls) → Rooms B W a e f (roleNext a knee ls) ls
+  after-knee-room (knee-room i n) = n
+
+  pub at-ordinary-room : Rooms B W a e f ordinary (hangs k s S ∷ ls) → Inside B a e (2 + widthOn a S)
+  at-ordinary-room (ordinary-room i n) = i
+
+  pub after-ordinary-room : Rooms B W a e f ordinary (hangs k s S ∷ ls) → Rooms B W a e f (roleNext a ordinary ls) ls
+  after-ordinary-room (ordinary-room i n) = n
+
+  pub at-switch-width : Rooms B W a e f switch (hangs k s S ∷ ls) → widthOn a S ≤ W
+  at-switch-width (switch-room w i x n) = w
+
+  pub at-switch-room : Rooms B W a e f switch (hangs k s S ∷ ls) → Inside B a e (W + 3)
+  at-switch-room (switch-room w i x n) = i
+
+  pub after-switch-room : Rooms B W a e f switch (hangs k s S ∷ ls) → Rooms B W (opposite a) f e (roleNext (opposite a) switch ls) ls
+  after-switch-room (switch-room w i x n) = n
+
 module _ (roles gaps : List ℕ) (W : ℕ) (a : Side) (e H r k : ℕ) (s : Side) (S Q : Tree) (ls : List SpineNode) where
   pub ready-far : far a s ≡ true → Ready roles gaps W a e knee H r Q (hangs k s S ∷ ls) → Ready roles gaps W a e (roleNext a knee ls) (max H r + heightOn a S) (max H r + heightOn a S + 1) none ls
-  unfolding Room handAfter
+  unfolding handAfter
   ready-far h g = record {
     prepared = no-spine;
     along = along-next (g .along);
-    spare = columns-less a e _ _ (omega (arith, width-none a)) (g .room .0);
-    room = g .room .1;
-    rows = omega (arith, g .rows, deepest-far a s H r (heightOn a Q) k S ls h);
+    spare = inside-less 65536 a e (omega (arith, width-none a)) (at-knee-room (g .rooms));
+    rooms = after-knee-room (g .rooms);
+    rows = omega (arith, g .rows, bottom-far a s H r (heightOn a Q) k S ls h);
   }
 
   pub ready-near : far a s ≡ false → Ready roles gaps W a e knee H r Q (hangs k s S ∷ ls) → Ready roles gaps W a e (roleNext a knee ls) (max H r) (max H r + 1) S ls
-  unfolding Room handAfter
+  unfolding handAfter
   ready-near h g = record {
     prepared = along-hung (g .along);
     along = along-next (g .along);
-    spare = g .room .0;
-    room = g .room .1;
-    rows = omega (arith, g .rows, deepest-near a s H r (heightOn a Q) k S ls h);
+    spare = at-knee-room (g .rooms);
+    rooms = after-knee-room (g .rooms);
+    rows = omega (arith, g .rows, bottom-near a s H r (heightOn a Q) k S ls h);
   }
 
   pub ready-ordinary : Ready roles gaps W a e ordinary H r Q (hangs k s S ∷ ls) → Ready roles gaps W a e (roleNext a ordinary ls) (r + heightOn a S) (r + max 1 (heightOn a S)) Q ls
-  unfolding Room handAfter deepest
-  ready-ordinary g = record { prepared = g .prepared; along = along-next (g .along); spare = g .spare; room = g .room .1; rows = g .rows }
+  unfolding handAfter bottom
+  ready-ordinary g = record { prepared = g .prepared; along = along-next (g .along); spare = g .spare; rooms = after-ordinary-room (g .rooms); rows = g .rows }
 
   pub ready-switch : Ready roles gaps W a e switch H r Q (hangs k s S ∷ ls) →
       Ready roles gaps W (opposite a) (inwards a e (W + 2)) (roleNext (opposite a) switch ls) (r + heightOn a S + heightOn a Q) (r + 1) none ls
-  unfolding Room handAfter
+  unfolding handAfter
   ready-switch g = record {
     prepared = no-spine;
     along = along-next (g .along);
-    spare = columns-over a e (W + 2) _ (omega (arith, width-none (opposite a))) (columns-less a e _ _ (omega arith) (g .room .1 .0));
-    room = g .room .1 .1;
-    rows = omega (arith, g .rows, deepest-over a s H r (heightOn a Q) k S ls);
+    spare = inside-less 65536 (opposite a) _ (omega (arith, width-none (opposite a))) (over-edge a e (W + 2) (inside-less 65536 a e (omega arith) (at-switch-room (g .rooms))));
+    rooms = rw (over-back a e (W + 2) (inside-less 65536 a e (omega arith) (at-switch-room (g .rooms)))) (after-switch-room (g .rooms));
+    rows = omega (arith, g .rows, bottom-over a s H r (heightOn a Q) k S ls);
   }
 
   -- The rows of what is drawn at a node are above those below it.
   pub rows-far : far a s ≡ true → Ready roles gaps W a e knee H r Q (hangs k s S ∷ ls) → max H r + heightOn a S + 1 ≤ 65536
-  rows-far h g = omega (arith, ready-far h g .rows, deepest-low a _ (max H r + heightOn a S) (max H r + heightOn a S + 1) (heightOn a none) ls (low-run a knee _ _ ls refl (omega arith)))
+  rows-far h g = omega (arith, ready-far h g .rows, bottom-low a _ (max H r + heightOn a S) (max H r + heightOn a S + 1) (heightOn a none) ls (low-run a knee _ _ ls refl (omega arith)))
 
   pub rows-near : far a s ≡ false → Ready roles gaps W a e knee H r Q (hangs k s S ∷ ls) → max H r + 1 ≤ 65536
-  rows-near h g = omega (arith, ready-near h g .rows, deepest-low a _ (max H r) (max H r + 1) (heightOn a S) ls (low-run a knee _ _ ls refl (omega arith)))
+  rows-near h g = omega (arith, ready-near h g .rows, bottom-low a _ (max H r) (max H r + 1) (heightOn a S) ls (low-run a knee _ _ ls refl (omega arith)))
 
   pub rows-knee : Ready roles gaps W a e knee H r Q (hangs k s S ∷ ls) → max H r + 1 ≤ 65536
   rows-knee g = go (far a s) refl
@@ -240,7 +263,7 @@ module _ (roles gaps : List ℕ) (W : ℕ) (a : Side) (e H r k : ℕ) (s : Side)
       go false h = rows-near h g
 
   pub rows-ordinary : Ready roles gaps W a e ordinary H r Q (hangs k s S ∷ ls) → r + heightOn a S + 1 ≤ 65536
-  rows-ordinary g = omega (arith, ready-ordinary g .rows, deepest-low a _ (r + heightOn a S) (r + max 1 (heightOn a S)) (heightOn a Q) ls (low-run a ordinary _ _ ls refl (omega arith)))
+  rows-ordinary g = omega (arith, ready-ordinary g .rows, bottom-low a _ (r + heightOn a S) (r + max 1 (heightOn a S)) (heightOn a Q) ls (low-run a ordinary _ _ ls refl (omega arith)))
 
   pub rows-switch : Ready roles gaps W a e switch H r Q (hangs k s S ∷ ls) → r + heightOn a S + heightOn a Q + 1 ≤ 65536
-  rows-switch g = omega (arith, ready-switch g .rows, deepest-low (opposite a) _ (r + heightOn a S + heightOn a Q) (r + 1) (heightOn (opposite a) none) ls (low-over (opposite a) _ _ ls))
+  rows-switch g = omega (arith, ready-switch g .rows, bottom-low (opposite a) _ (r + heightOn a S + heightOn a Q) (r + 1) (heightOn (opposite a) none) ls (low-over (opposite a) _ _ ls))

@@ -14,7 +14,7 @@ use Rattle.layout.specs.Layout.{Layout, blank, placed, width, height, mirror}
 use Rattle.layout.specs.Spine.{SpineNode, hangs, Role, knee, ordinary, switch}
 use Rattle.layout.specs.Drawing.{join, draw, drawing}
 use Rattle.layout.specs.Held.{facing, put, hungOn, heightOn, widthOn, spineOn, far, lay}
-use Rattle.layout.proofs.Rows.{shape, mirror-twice, size-mirror}
+use Rattle.layout.proofs.Rows.{shape, mirror-twice, size-facing}
 use Rattle.layout.proofs.Theorem.{promise}
 
 -- No record is in both trees.
@@ -67,11 +67,6 @@ width-none left = refl
 width-none right = refl
 
 -- ---- shapes
-
-size-facing : (s : Side) (T : Tree) → size (facing s T) ≡ size T
-unfolding facing
-size-facing left T = refl
-size-facing right T = size-mirror T
 
 wide : (L : Layout) → 0 < size (shape L) → 1 ≤ width L
 unfolding shape size width

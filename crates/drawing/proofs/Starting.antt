@@ -1,5 +1,5 @@
 -- The two ends of a spine: the walk at its first node, a knee, where all of it is left; and where it has ended, and only the pending child is left.
-use mathlib.Core.Path.{_≡_, refl, ap, sym, subst, _∙_}
+use mathlib.Core.Path.{_≡_, refl, ap, sym, subst, subst₂, _∙_}
 use mathlib.Core.Bool.{Bool, true, false}
 use mathlib.Core.Logic.{inl, inr}
 use mathlib.Core.List.{List, [], _∷_}
@@ -20,22 +20,25 @@ use Rattle.layout.specs.Drawing.{draw}
 use Rattle.layout.specs.Held.{facing, inwards, hungOn, heightOn, widthOn, widestOn, spineOn, lay, Frame, Fit}
 use Rattle.layout.proofs.Rows.{shape}
 use Rattle.layout.proofs.Theorem.{promise}
+use Rattle.layout.proofs.Held.{bottom, Inside, inside-less, hung-inside, rooms-law, inside-fits, hung-law, bottom-law}
 use Rattle.measure.specs.Sized.{Named}
 use Rattle.measure.specs.Forked.{sideOf}
 use Rattle.measure.specs.Prepared.{Prepared, Along, no-spine, a-spine}
 use Rattle.drawing.specs.Answer.{store}
 use Rattle.drawing.specs.declared.place.Walk.{Walk}
-use Rattle.drawing.specs.Placing.{Columns, Hanging, Hung, deepest, Room, kept, finish, finished, Ready, handOf, spineFrom, Going, left-over, Stepped, bottom, remaining}
+use Rattle.drawing.specs.Placing.{Hanging, Hung, kept, finish, finished, Ready, handOf, spineFrom, Going, left-over, Stepped, rowBelow, remaining}
 use Rattle.drawing.proofs.Shapes.{count-node, hung-none, height-none, width-none, width-node}
-use Rattle.drawing.proofs.Columns.{columns-less, columns-in}
 use Rattle.drawing.proofs.Onward.{finished-none}
-use Rattle.drawing.proofs.Needed.{hung-law, depth-law, room-law}
 
-pub not-zero : (k : ℕ) → (k ≡ 0 → ⊥) → 0 < k
-not-zero zero h = absurd (h refl)
-not-zero (suc k) h = omega arith
+-- ---- nodes and no nodes
 
--- ---- nothing to draw
+pub named-node : (t : List ℕ) (k : ℕ) → Named t k → 0 < k → Chained t k
+named-node t k (inl e) h = absurd (omega arith)
+named-node t k (inr c) h = c
+
+some-node : (t : List ℕ) → fault t ≡ 0 → (k : ℕ) → Chained t k → 0 < size (treeAt t k)
+unfolding size
+some-node t ok k c = omega (arith, ap size (tree-unfolds t ok k c))
 
 pub hung-nothing : (t : List ℕ) (s : Side) (k e top : ℕ) (p : List ℕ) → k ≡ 0 → Hung t s k e top p top p
 unfolding store
@@ -49,11 +52,20 @@ hung-nothing t s k e top p z = record {
 
 -- ---- code has the side as a bool
 
-pub hanging-side : (t roles gaps : List ℕ) (b d : Bool) {k e top : ℕ} → b ≡ d → Hanging t roles gaps (sideOf b) k e top → Hanging t roles gaps (sideOf d) k e top
-hanging-side t roles gaps b d {k} {e} {top} q h = subst (λ (x : Bool). Hanging t roles gaps (sideOf x) k e top) q h
+-- A node's drawing has a column, where its edge is.
+pub column-hung : (t roles gaps : List ℕ) (s : Side) (k e c top : ℕ) → fault t ≡ 0 → 0 < k → Hanging t roles gaps s k e c top → Inside 65536 s e (c + 1)
+column-hung t roles gaps s k e c top ok h g = inside-less 65536 s e (omega (arith, width-node s (treeAt t k) (some-node t ok k (named-node t k (g .named) h)))) (g .columns)
 
-pub hung-side : (t : List ℕ) (b d : Bool) {k e top below : ℕ} {p p′ : List ℕ} → b ≡ d → Hung t (sideOf d) k e top p below p′ → Hung t (sideOf b) k e top p below p′
-hung-side t b d {k} {e} {top} {below} {p} {p′} q h = subst (λ (x : Bool). Hung t (sideOf x) k e top p below p′) (sym q) h
+pub hanging-side : (t roles gaps : List ℕ) (b d : Bool) (k e c top edge : ℕ) → b ≡ d → edge ≡ inwards (sideOf b) e c → Hanging t roles gaps (sideOf b) k e c top → Hanging t roles gaps (sideOf d) k edge 0 top
+hanging-side t roles gaps b d k e c top edge q r h = subst (λ (x : Bool). Hanging t roles gaps (sideOf x) k edge 0 top) q (record {
+  named = h .named;
+  prepared = h .prepared;
+  columns = rw r (inside-less 65536 (sideOf b) _ (omega arith) (hung-inside 65536 (sideOf b) e c _ (h .columns)));
+  rows = h .rows;
+})
+
+pub hung-side : (t : List ℕ) (b d : Bool) (k e c top below edge : ℕ) (p p′ : List ℕ) → b ≡ d → edge ≡ inwards (sideOf b) e c → Hung t (sideOf d) k edge top p below p′ → Hung t (sideOf b) k (inwards (sideOf b) e c) top p below p′
+hung-side t b d k e c top below edge p p′ q r h = subst₂ (λ (x : Bool) (n : ℕ). Hung t (sideOf x) k n top p below p′) (sym q) r h
 
 -- ---- the end
 
@@ -62,30 +74,18 @@ module _ (t roles gaps : List ℕ) (w : Walk) (ended : w .at ≡ 0) where
   unfolding spineOn
   no-spine-left = ap (spineOn (sideOf (w .mirrored))) (ap (treeAt t) ended ∙ tree-none t)
 
-  pub bottom-end : (o : Role) → bottom t o w ≡ w .lowest + 1 + heightOn (handOf w) (treeAt t (w .pending))
-  unfolding deepest
-  bottom-end o = ap (deepest (handOf w) o (w .lowest) (w .row) (heightOn (handOf w) (treeAt t (w .pending)))) no-spine-left
+  pub bottom-end : (o : Role) → rowBelow t o w ≡ w .lowest + 1 + heightOn (handOf w) (treeAt t (w .pending))
+  unfolding bottom
+  bottom-end o = ap (bottom (handOf w) o (w .lowest) (w .row) (heightOn (handOf w) (treeAt t (w .pending)))) no-spine-left ∙ omega arith
 
   pub remaining-end : (o : Role) (p : List ℕ) → remaining t o w p ≡ store (hungOn (handOf w) (inwards (handOf w) (w .edge) 1) (w .lowest + 1) (treeAt t (w .pending))) p
   unfolding finished finish kept lay store
   remaining-end o p = ap (λ (ls : List SpineNode). finished (w .gap) (handOf w) (w .edge) o (w .lowest) (w .row) (treeAt t (w .pending)) ls p) no-spine-left
 
-  pub hanging-end : (o : Role) → Going t roles gaps o w → Hanging t roles gaps (handOf w) (w .pending) (inwards (handOf w) (w .edge) 1) (w .lowest + 1)
-  hanging-end o g = record {
-    named = g .named-pending;
-    prepared = g .ready .prepared;
-    columns = columns-in (handOf w) (w .edge) 1 _ (columns-less (handOf w) (w .edge) _ _ (omega arith) (g .ready .spare));
-    rows = omega (arith, g .ready .rows, bottom-end o);
-  }
-
-  pub columns-end : (o : Role) → Going t roles gaps o w → Columns (handOf w) (w .edge) (1 + 1)
-  columns-end o g = columns-less (handOf w) (w .edge) _ _ (omega arith) (g .ready .spare)
+  pub hanging-end : (o : Role) → Going t roles gaps o w → Hanging t roles gaps (handOf w) (w .pending) (w .edge) 1 (w .lowest + 1)
+  hanging-end o g = record { named = g .named-pending; prepared = g .ready .prepared; columns = g .ready .spare; rows = omega (arith, g .ready .rows, bottom-end o) }
 
 -- ---- the start
-
-pub named-node : (t : List ℕ) (k : ℕ) → Named t k → 0 < k → Chained t k
-named-node t k (inl e) h = absurd (omega arith)
-named-node t k (inr c) h = c
 
 -- Every subtree of an accepted table has each record once.
 once-below : (i k : ℕ) (a b : Tree) → count i (nodes (node k a b)) ≤ 1 → (count i (nodes a) ≤ 1) × (count i (nodes b) ≤ 1)
@@ -111,12 +111,7 @@ unfolding inwards
 frame left e w = refl
 frame right e w = λ h. omega arith
 
-fit : (s : Side) (e : ℕ) (S : Tree) → Columns s e (suc (widthOn s S)) → Fit s e (draw (facing s S))
-unfolding widthOn
-fit left e S c = tt
-fit right e S c = omega arith
-
-module _ (t roles gaps : List ℕ) (ok : fault t ≡ 0) (b : Bool) (root edge top : ℕ) (g : Hanging t roles gaps (sideOf b) root edge top) (node-there : 0 < root) where
+module _ (t roles gaps : List ℕ) (ok : fault t ≡ 0) (b : Bool) (root edge top : ℕ) (g : Hanging t roles gaps (sideOf b) root edge 0 top) (node-there : 0 < root) where
   abbrev s : Side
   s = sideOf b
 
@@ -131,11 +126,13 @@ module _ (t roles gaps : List ℕ) (ok : fault t ≡ 0) (b : Bool) (root edge to
   tree = tree-unfolds t ok root chained
 
   some : 0 < size (treeAt t root)
-  unfolding size
-  some = omega (arith, ap size tree)
+  some = some-node t ok root chained
 
   gap-law : getD gaps root 0 ≡ widestOn s (treeAt t root)
   gap-law = rw tree (spine-gap (rw tree at (g .prepared)))
+
+  inside : Inside 65536 s edge (widthOn s (treeAt t root))
+  inside = inside-less 65536 s edge (omega arith) (g .columns)
 
   pub going-start : Going t roles gaps knee start
   unfolding nodes count
@@ -146,19 +143,20 @@ module _ (t roles gaps : List ℕ) (ok : fault t ≡ 0) (b : Bool) (root edge to
     ready = rw (tree-none t) (record {
       prepared = no-spine;
       along = rw tree (spine-along (rw tree at (g .prepared)));
-      spare = columns-less s edge _ _ (omega (arith, width-none s, width-node s (treeAt t root) some)) (g .columns);
-      room = rw gap-law (room-law s edge (treeAt t root) (g .columns));
-      rows = rw (height-none s) (omega (arith, depth-law s top (treeAt t root) some, g .rows));
+      spare = inside-less 65536 s edge (omega (arith, width-none s, width-node s (treeAt t root) some)) inside;
+      rooms = rw gap-law (rooms-law 65536 s edge _ top (treeAt t root) (frame s edge _) inside);
+      rows = rw (height-none s) (omega (arith, bottom-law s top (treeAt t root) some, g .rows));
     });
   }
 
   pub remaining-start : (p : List ℕ) → remaining t knee start p ≡ store (hungOn s edge top (treeAt t root)) p
-  remaining-start p = rw (tree-none t) (finished-none (getD gaps root 0) s edge knee top top _ p ∙ ap (λ (L : Layout). store L p) (sym (hung-law s edge _ top (treeAt t root) (rw gap-law (frame s edge _)) (fit s edge (treeAt t root) (g .columns)))))
+  unfolding widthOn
+  remaining-start p = rw (tree-none t) (finished-none (getD gaps root 0) s edge knee top top _ p ∙ ap (λ (L : Layout). store L p) (sym (hung-law s edge _ top (treeAt t root) (rw gap-law (frame s edge _)) (inside-fits 65536 s edge (draw (facing s (treeAt t root))) inside))))
 
-  pub bottom-start : bottom t knee start ≡ top + heightOn s (treeAt t root)
-  bottom-start = rw (tree-none t, height-none s) (depth-law s top (treeAt t root) some)
+  pub bottom-start : rowBelow t knee start ≡ top + heightOn s (treeAt t root)
+  bottom-start = rw (tree-none t, height-none s) (bottom-law s top (treeAt t root) some)
 
-  pub hung-start : (p p′ : List ℕ) (below : ℕ) → (below ≡ bottom t knee start) × (p′ ≡ remaining t knee start p) → Hung t s root edge top p below p′
+  pub hung-start : (p p′ : List ℕ) (below : ℕ) → (below ≡ rowBelow t knee start) × (p′ ≡ remaining t knee start p) → Hung t s root edge top p below p′
   hung-start p p′ below e = record { lowest = e .0 ∙ bottom-start; stored = e .1 ∙ remaining-start p }
 
 -- ---- on the way
@@ -167,7 +165,7 @@ pub record Walked (t roles gaps : List ℕ) (p₀ : List ℕ) (w₀ : Walk) (p :
   pub role : Role
   pub going : Going t roles gaps role w
   pub same : remaining t role w p ≡ remaining t knee w₀ p₀
-  pub as-deep : bottom t role w ≡ bottom t knee w₀
+  pub as-deep : rowBelow t role w ≡ rowBelow t knee w₀
   pub fewer : left-over t w ≤ size (treeAt t (w₀ .at))
   pub one-less : size (treeAt t (w .pending)) < size (treeAt t (w₀ .at))
   pub kept : length p ≡ length p₀
@@ -183,7 +181,7 @@ module _ (t roles gaps : List ℕ) where
         same = refl;
         as-deep = refl;
         fewer = omega arith;
-        one-less = omega (arith, ap size (tree-unfolds t ok (w .at) (named-node t (w .at) (g .named) h)));
+        one-less = omega (arith, some-node t ok (w .at) (named-node t (w .at) (g .named) h));
         kept = refl;
       }
 
@@ -198,9 +196,7 @@ module _ (t roles gaps : List ℕ) where
     kept = e ∙ g .kept;
   }
 
-  pub walked-end : (p₀ : List ℕ) (w₀ : Walk) (p : List ℕ) (w : Walk) (p′ : List ℕ) (edge below : ℕ) → (g : Walked t roles gaps p₀ w₀ p w) → w .at ≡ 0 → edge ≡ inwards (handOf w) (w .edge) 1 →
-      Hung t (handOf w) (w .pending) edge (w .lowest + 1) p below p′ → (below ≡ bottom t knee w₀) × (p′ ≡ remaining t knee w₀ p₀)
-  walked-end p₀ w₀ p w p′ edge below g z e d = (
-    d .lowest ∙ (sym (bottom-end t roles gaps w z (g .role)) ∙ g .as-deep),
-    d .stored ∙ (ap (λ (n : ℕ). store (hungOn (handOf w) n (w .lowest + 1) (treeAt t (w .pending))) p) e ∙ (sym (remaining-end t roles gaps w z (g .role) p) ∙ g .same)),
-  )
+  pub walked-end : (p₀ : List ℕ) (w₀ : Walk) (p : List ℕ) (w : Walk) (p′ : List ℕ) (below : ℕ) → (g : Walked t roles gaps p₀ w₀ p w) → w .at ≡ 0 →
+      Hung t (handOf w) (w .pending) (inwards (handOf w) (w .edge) 1) (w .lowest + 1) p below p′ → (below ≡ rowBelow t knee w₀) × (p′ ≡ remaining t knee w₀ p₀)
+  walked-end p₀ w₀ p w p′ below g z d =
+      (d .lowest ∙ (sym (bottom-end t roles gaps w z (g .role)) ∙ g .as-deep), d .stored ∙ (sym (remaining-end t roles gaps w z (g .role) p) ∙ g .same))

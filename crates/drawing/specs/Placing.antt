@@ -12,6 +12,7 @@ use Rattle.table.specs.Refusal.{fault}
 use Rattle.layout.specs.Spine.{SpineNode, hangs, Role, knee, ordinary, switch, opposite}
 use Rattle.layout.specs.Drawing.{Rest}
 use Rattle.layout.specs.Held.{inwards, hungOn, heightOn, widthOn, spineOn, roleNext, far, lay}
+use Rattle.layout.proofs.Held.{bottom, Inside, Rooms}
 use Rattle.measure.specs.Sized.{Named, Sized}
 use Rattle.measure.specs.Forked.{sideOf}
 use Rattle.measure.specs.Prepared.{Prepared, Along}
@@ -40,17 +41,12 @@ pub record Given (t sizes roles gaps p : List ℕ) : Type 0 where
   pub long-gaps : length gaps ≡ 4097
   pub enough : 2 * records t ≤ length p
 
--- There are n columns inwards from the edge e of a side, all with 16-bit numbers.
-abbrev pub Columns : Side → (e n : ℕ) → Type 0
-Columns left e n = e + n ≤ 65536
-Columns right e n = (n ≤ suc e) × (e < 65536)
-
--- The subtree at record k can be drawn on the side s, from its edge e and its top row: it is measured, there is a column to spare, and the rows are
--- 16-bit numbers.
-pub record Hanging (t roles gaps : List ℕ) (s : Side) (k e top : ℕ) : Type 0 where
+-- The subtree at record k can be drawn on the side s, its edge c columns inwards from the edge e of a hand, from its top row on: it is measured, and its
+-- columns and rows are 16-bit numbers.
+pub record Hanging (t roles gaps : List ℕ) (s : Side) (k e c top : ℕ) : Type 0 where
   pub named : Named t k
   pub prepared : Prepared roles gaps s (treeAt t k)
-  pub columns : Columns s e (suc (widthOn s (treeAt t k)))
+  pub columns : Inside 65536 s e (c + widthOn s (treeAt t k))
   pub rows : top + heightOn s (treeAt t k) ≤ 65536
 
 -- It is drawn: the placements, and the first row below.
@@ -59,24 +55,6 @@ pub record Hung (t : List ℕ) (s : Side) (k e top : ℕ) (p : List ℕ) (below 
   pub stored : p′ ≡ store (hungOn s e top (treeAt t k)) p
 
 -- ---- what is left of a spine, from a node of the hand a and the role o on, in row r; H is the lowest row used before it
-
--- The first row below all of it; p is the height of what is pending.
-unfoldable pub deepest : Side → Role → (H r p : ℕ) → List SpineNode → ℕ
-deepest a o H r p [] = H + 1 + p
-deepest a knee H r p (hangs k s S ∷ ls) =
-    elim (far a s) [
-      | true ↦ deepest a (roleNext a knee ls) (max H r + heightOn a S) (max H r + heightOn a S + 1) 0 ls
-      | false ↦ deepest a (roleNext a knee ls) (max H r) (max H r + 1) (heightOn a S) ls
-    ]
-deepest a ordinary H r p (hangs k s S ∷ ls) = deepest a (roleNext a ordinary ls) (r + heightOn a S) (r + max 1 (heightOn a S)) p ls
-deepest a switch H r p (hangs k s S ∷ ls) = deepest (opposite a) (roleNext (opposite a) switch ls) (r + heightOn a S + p) (r + 1) 0 ls
-
--- The columns that it takes, inwards from the hand's edge e, with one to spare for each hung drawing.
-unfoldable pub Room : (W : ℕ) → Side → ℕ → Role → List SpineNode → Type 0
-Room W a e o [] = Unit {0}
-Room W a e knee (hangs k s S ∷ ls) = Columns a e (2 + widthOn a S) × Room W a e (roleNext a knee ls) ls
-Room W a e ordinary (hangs k s S ∷ ls) = Columns a e (3 + widthOn a S) × Room W a e (roleNext a ordinary ls) ls
-Room W a e switch (hangs k s S ∷ ls) = Columns a e (2 + widthOn a S) × (Columns a e (W + 3) × Room W (opposite a) (inwards a e (W + 2)) (roleNext (opposite a) switch ls) ls)
 
 -- Before a knee nothing is pending.
 unfoldable pub kept : Role → List SpineNode → Tree → Tree
@@ -96,9 +74,9 @@ finished W a e o H r Q ls p = finish a e (kept o ls Q) (lay a e (inwards a e (W 
 pub record Ready (roles gaps : List ℕ) (W : ℕ) (a : Side) (e : ℕ) (o : Role) (H r : ℕ) (Q : Tree) (ls : List SpineNode) : Type 0 where
   pub prepared : Prepared roles gaps a Q
   pub along : Along roles gaps a o ls
-  pub spare : Columns a e (2 + widthOn a Q)
-  pub room : Room W a e o ls
-  pub rows : deepest a o H r (heightOn a Q) ls ≤ 65536
+  pub spare : Inside 65536 a e (1 + widthOn a Q)
+  pub rooms : Rooms 65536 W a e (inwards a e (W + 2)) o ls
+  pub rows : bottom a o H r (heightOn a Q) ls ≤ 65536
 
 -- ---- the same, of a walk
 
@@ -112,8 +90,8 @@ handOf w = sideOf (w .right)
 abbrev pub spineFrom : List ℕ → Walk → List SpineNode
 spineFrom t w = spineOn (sideOf (w .mirrored)) (treeAt t (w .at))
 
-abbrev pub bottom : List ℕ → Role → Walk → ℕ
-bottom t o w = deepest (handOf w) o (w .lowest) (w .row) (heightOn (handOf w) (treeAt t (w .pending))) (spineFrom t w)
+abbrev pub rowBelow : List ℕ → Role → Walk → ℕ
+rowBelow t o w = bottom (handOf w) o (w .lowest) (w .row) (heightOn (handOf w) (treeAt t (w .pending))) (spineFrom t w)
 
 abbrev pub remaining : List ℕ → Role → Walk → List ℕ → List ℕ
 remaining t o w p = finished (w .gap) (handOf w) (w .edge) o (w .lowest) (w .row) (treeAt t (w .pending)) (spineFrom t w) p
@@ -133,6 +111,6 @@ pub record Stepped (t roles gaps : List ℕ) (o : Role) (w : Walk) (p : List ℕ
   pub role : Role
   pub going : Going t roles gaps role w′
   pub same : remaining t role w′ p′ ≡ remaining t o w p
-  pub as-deep : bottom t role w′ ≡ bottom t o w
+  pub as-deep : rowBelow t role w′ ≡ rowBelow t o w
   pub fewer : left-over t w′ < left-over t w
   pub shorter : size (treeAt t (w′ .at)) < size (treeAt t (w .at))

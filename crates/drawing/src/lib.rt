@@ -1,5 +1,4 @@
 // The drawer: Algorithm BT-Ordered-Draw over a table of records.
-mod stub;
 mod place;
 
 // The extent of a drawing.

@@ -1,17 +1,18 @@
 // Placing: the points of a drawing, in the columns and rows of the whole plan. Roles and gaps are read; placing chooses none.
-use crate::stub::fork_at;
-use crate::stub::role_at;
-use crate::stub::Role;
 use measure::Fork;
+use measure::fork_at;
+use measure::roles::Role;
+use measure::roles::role_at;
 ghost use mathlib.Core.Path.{_≡_};
 ghost use Prim.Native.Nat.{_+_, _*_, _<_, max};
 ghost use lib.ListN.{length, getD};
 ghost use Rattle.table.specs.Table.{left, right};
 ghost use Rattle.layout.specs.Spine.{Role as LayoutRole, knee, ordinary, switch};
 ghost use Rattle.layout.specs.Held.{inwards as inwardsOf, far};
+ghost use Rattle.layout.proofs.Held.{Inside};
 ghost use Rattle.measure.specs.Forked.{sideOf, Forked};
-ghost use Rattle.drawing.specs.Stub.{roleOf};
-ghost use Rattle.drawing.specs.Placing.{isKnee, isSwitch, point, Columns, walkTo, Given, Hanging, Hung, Going, Stepped, remaining, bottom};
+ghost use Rattle.measure.specs.Roles.{roleOf};
+ghost use Rattle.drawing.specs.Placing.{isKnee, isSwitch, point, handOf, walkTo, Given, Hanging, Hung, Going, Stepped, remaining, rowBelow};
 
 // A walk along the spine of a drawing: the next node and its row, the lowest row used so far, the pending child, 0 for none; the hand that the node
 // is on, and its edge; W of the spine, and whether its drawing is on the right side.
@@ -26,14 +27,6 @@ pub struct Walk {
     pub mirrored: bool,
 }
 
-// A subtree to draw, 0 for none, held on a side by its edge, from a top row.
-pub struct Hang {
-    pub child: usize,
-    pub right: bool,
-    pub edge: usize,
-    pub top: usize,
-}
-
 fn greater(a: usize, b: usize) -> usize
     ensures { λ r. ⌜ r ≡ max a b ⌝ }
 {
@@ -42,7 +35,7 @@ fn greater(a: usize, b: usize) -> usize
 
 // k columns inwards from the edge of a hand.
 fn inwards(right: bool, edge: usize, k: usize) -> usize
-    requires { ⌜ Columns (sideOf right) edge (k + 1) ⌝ }
+    requires { ⌜ Inside 65536 (sideOf right) edge (k + 1) ⌝ }
     ensures { λ r. ⌜ (r ≡ inwardsOf (sideOf right) edge k) × (r < 65536) ⌝ }
 {
     if right { edge - k } else { edge + k }
@@ -94,11 +87,28 @@ fn set_point(placements: &mut [u16], k: usize, column: usize, row: usize)
 fn onward(w: Walk, at: usize, row: usize, lowest: usize, pending: usize) -> Walk
     ensures { λ r. ⌜ r ≡ walkTo w at row lowest pending (w .right) (w .edge) ⌝ }
 {
-    Walk { at, row, lowest, pending, right: w.right, edge: w.edge, gap: w.gap, mirrored: w.mirrored }
+    Walk {
+        at,
+        row,
+        lowest,
+        pending,
+        right: w.right,
+        edge: w.edge,
+        gap: w.gap,
+        mirrored: w.mirrored,
+    }
 }
 
 // Step 4: a child hung on the far side is drawn below all so far, and the next node is below it; one on the near side is pending.
-fn at_knee(table: &[u8], sizes: &[u16], roles: &[u16], gaps: &[u16], placements: &mut [u16], fork: Fork, w: Walk) -> Walk
+fn at_knee(
+    table: &[u8],
+    sizes: &[u16],
+    roles: &[u16],
+    gaps: &[u16],
+    placements: &mut [u16],
+    fork: Fork,
+    w: Walk,
+) -> Walk
     requires { ⌜ Given (now table) (now sizes) (now roles) (now gaps) (now placements) ⌝ }
     requires { ⌜ Going (now table) (now roles) (now gaps) knee w ⌝ }
     requires { ⌜ Forked (now table) (sideOf (w .mirrored)) (w .at) (fork .spine) (fork .hung) (sideOf (fork .«hung_right»)) ⌝ }
@@ -106,17 +116,24 @@ fn at_knee(table: &[u8], sizes: &[u16], roles: &[u16], gaps: &[u16], placements:
 {
     set_point(placements, w.at, w.edge, w.row);
     let lowest = greater(w.lowest, w.row);
+    let row = lowest + 1;
     if is_far(w.right, fork.hung_right) {
-        let edge = inwards(w.right, w.edge, 1);
-        let hang = Hang { child: fork.hung, right: w.right, edge, top: lowest + 1 };
-        let below = draw_hung(table, sizes, roles, gaps, placements, hang);
+        let below = draw_hung(table, sizes, roles, gaps, placements, w, fork.hung, 1, row);
         return onward(w, fork.spine, below, below - 1, 0);
     }
-    onward(w, fork.spine, lowest + 1, lowest, fork.hung)
+    onward(w, fork.spine, row, lowest, fork.hung)
 }
 
 // Step 5: the next node is on the bottom row of the hung drawing, or one row lower.
-fn at_ordinary(table: &[u8], sizes: &[u16], roles: &[u16], gaps: &[u16], placements: &mut [u16], fork: Fork, w: Walk) -> Walk
+fn at_ordinary(
+    table: &[u8],
+    sizes: &[u16],
+    roles: &[u16],
+    gaps: &[u16],
+    placements: &mut [u16],
+    fork: Fork,
+    w: Walk,
+) -> Walk
     requires { ⌜ Given (now table) (now sizes) (now roles) (now gaps) (now placements) ⌝ }
     requires { ⌜ Going (now table) (now roles) (now gaps) ordinary w ⌝ }
     requires { ⌜ Forked (now table) (sideOf (w .mirrored)) (w .at) (fork .spine) (fork .hung) (sideOf (fork .«hung_right»)) ⌝ }
@@ -124,32 +141,63 @@ fn at_ordinary(table: &[u8], sizes: &[u16], roles: &[u16], gaps: &[u16], placeme
 {
     set_point(placements, w.at, inwards(w.right, w.edge, 1), w.row);
     let row = w.row + 1;
-    let edge = inwards(w.right, w.edge, 2);
-    let hang = Hang { child: fork.hung, right: w.right, edge, top: row };
-    let below = draw_hung(table, sizes, roles, gaps, placements, hang);
-    onward(w, fork.spine, greater(row, below - 1), below - 1, w.pending)
+    let below = draw_hung(table, sizes, roles, gaps, placements, w, fork.hung, 2, row);
+    let lowest = below - 1;
+    onward(w, fork.spine, greater(row, lowest), lowest, w.pending)
 }
 
 // Step 6: what is pending goes under the hung drawing, and the walk goes over to the other hand.
-fn at_switch(table: &[u8], sizes: &[u16], roles: &[u16], gaps: &[u16], placements: &mut [u16], fork: Fork, w: Walk) -> Walk
+fn at_switch(
+    table: &[u8],
+    sizes: &[u16],
+    roles: &[u16],
+    gaps: &[u16],
+    placements: &mut [u16],
+    fork: Fork,
+    w: Walk,
+) -> Walk
     requires { ⌜ Given (now table) (now sizes) (now roles) (now gaps) (now placements) ⌝ }
     requires { ⌜ Going (now table) (now roles) (now gaps) switch w ⌝ }
     requires { ⌜ Forked (now table) (sideOf (w .mirrored)) (w .at) (fork .spine) (fork .hung) (sideOf (fork .«hung_right»)) ⌝ }
     ensures { λ r. ⌜ Stepped (now (table .entry)) (now (roles .entry)) (now (gaps .entry)) switch w (now (placements .entry)) r (now (placements .exit)) ⌝ }
 {
-    let edge = inwards(w.right, w.edge, 1);
-    set_point(placements, w.at, edge, w.row);
+    set_point(placements, w.at, inwards(w.right, w.edge, 1), w.row);
     let row = w.row + 1;
-    let hung = Hang { child: fork.hung, right: w.right, edge, top: row };
-    let under = draw_hung(table, sizes, roles, gaps, placements, hung);
-    let pending = Hang { child: w.pending, right: w.right, edge, top: under };
-    let below = draw_hung(table, sizes, roles, gaps, placements, pending);
-    let other = inwards(w.right, w.edge, w.gap + 2);
-    Walk { at: fork.spine, row, lowest: below - 1, pending: 0, right: !w.right, edge: other, gap: w.gap, mirrored: w.mirrored }
+    let under = draw_hung(table, sizes, roles, gaps, placements, w, fork.hung, 1, row);
+    let below = draw_hung(
+        table,
+        sizes,
+        roles,
+        gaps,
+        placements,
+        w,
+        w.pending,
+        1,
+        under,
+    );
+    let lowest = below - 1;
+    let edge = inwards(w.right, w.edge, w.gap + 2);
+    Walk {
+        at: fork.spine,
+        row,
+        lowest,
+        pending: 0,
+        right: !w.right,
+        edge,
+        gap: w.gap,
+        mirrored: w.mirrored,
+    }
 }
 
 // One node of a spine: it and what hangs from it, or was pending, by its role.
-fn step(table: &[u8], sizes: &[u16], roles: &[u16], gaps: &[u16], placements: &mut [u16], w: Walk) -> Walk
+fn step(
+    table: &[u8],
+    sizes: &[u16],
+    roles: &[u16],
+    gaps: &[u16],
+    placements: &mut [u16],
+    w: Walk,
+) -> Walk
     requires { ⌜ Given (now table) (now sizes) (now roles) (now gaps) (now placements) ⌝ }
     requires { ⌜ ((o : LayoutRole) × Going (now table) (now roles) (now gaps) o w) ⌝ }
     requires { ⌜ 0 < w .at ⌝ }
@@ -167,58 +215,111 @@ fn step(table: &[u8], sizes: &[u16], roles: &[u16], gaps: &[u16], placements: &m
 }
 
 // From the first node to the end of a spine. Step 8: what is still pending goes below all. Answers the first row below the drawing.
-fn draw_spine(table: &[u8], sizes: &[u16], roles: &[u16], gaps: &[u16], placements: &mut [u16], start: Walk) -> usize
+fn draw_spine(
+    table: &[u8],
+    sizes: &[u16],
+    roles: &[u16],
+    gaps: &[u16],
+    placements: &mut [u16],
+    start: Walk,
+) -> usize
     requires { ⌜ Given (now table) (now sizes) (now roles) (now gaps) (now placements) ⌝ }
     requires { ⌜ Going (now table) (now roles) (now gaps) knee start ⌝ }
     requires { ⌜ 0 < start .at ⌝ }
     requires { ⌜ start .pending ≡ 0 ⌝ }
-    ensures { λ r. ⌜ (r ≡ bottom (now (table .entry)) knee start) × (now (placements .exit) ≡ remaining (now (table .entry)) knee start (now (placements .entry))) ⌝ }
+    ensures { λ r. ⌜ (r ≡ rowBelow (now (table .entry)) knee start) × (now (placements .exit) ≡ remaining (now (table .entry)) knee start (now (placements .entry))) ⌝ }
 {
     let mut w = start;
     while w.at != 0 {
         w = step(table, sizes, roles, gaps, placements, w);
     }
-    let edge = inwards(w.right, w.edge, 1);
-    let hang = Hang { child: w.pending, right: w.right, edge, top: w.lowest + 1 };
-    draw_hung(table, sizes, roles, gaps, placements, hang)
+    let top = w.lowest + 1;
+    draw_hung(table, sizes, roles, gaps, placements, w, w.pending, 1, top)
 }
 
 // A drawing on the left side, by these steps. Answers the first row below it.
-fn draw_left(table: &[u8], sizes: &[u16], roles: &[u16], gaps: &[u16], placements: &mut [u16], root: usize, edge: usize, top: usize) -> usize
+pub fn draw_left(
+    table: &[u8],
+    sizes: &[u16],
+    roles: &[u16],
+    gaps: &[u16],
+    placements: &mut [u16],
+    root: usize,
+    edge: usize,
+    top: usize,
+) -> usize
     requires { ⌜ Given (now table) (now sizes) (now roles) (now gaps) (now placements) ⌝ }
-    requires { ⌜ Hanging (now table) (now roles) (now gaps) left root edge top ⌝ }
+    requires { ⌜ Hanging (now table) (now roles) (now gaps) left root edge 0 top ⌝ }
     requires { ⌜ 0 < root ⌝ }
     ensures { λ r. ⌜ Hung (now (table .entry)) left root edge top (now (placements .entry)) r (now (placements .exit)) ⌝ }
 {
     let gap = gaps[root] as usize;
-    let start = Walk { at: root, row: top, lowest: top, pending: 0, right: false, edge, gap, mirrored: false };
+    let start = Walk {
+        at: root,
+        row: top,
+        lowest: top,
+        pending: 0,
+        right: false,
+        edge,
+        gap,
+        mirrored: false,
+    };
     draw_spine(table, sizes, roles, gaps, placements, start)
 }
 
 // A drawing on the right side: the mirror image, flipped left to right.
-fn draw_right(table: &[u8], sizes: &[u16], roles: &[u16], gaps: &[u16], placements: &mut [u16], root: usize, edge: usize, top: usize) -> usize
+fn draw_right(
+    table: &[u8],
+    sizes: &[u16],
+    roles: &[u16],
+    gaps: &[u16],
+    placements: &mut [u16],
+    root: usize,
+    edge: usize,
+    top: usize,
+) -> usize
     requires { ⌜ Given (now table) (now sizes) (now roles) (now gaps) (now placements) ⌝ }
-    requires { ⌜ Hanging (now table) (now roles) (now gaps) right root edge top ⌝ }
+    requires { ⌜ Hanging (now table) (now roles) (now gaps) right root edge 0 top ⌝ }
     requires { ⌜ 0 < root ⌝ }
     ensures { λ r. ⌜ Hung (now (table .entry)) right root edge top (now (placements .entry)) r (now (placements .exit)) ⌝ }
 {
     let gap = gaps[root] as usize;
-    let start = Walk { at: root, row: top, lowest: top, pending: 0, right: true, edge, gap, mirrored: true };
+    let start = Walk {
+        at: root,
+        row: top,
+        lowest: top,
+        pending: 0,
+        right: true,
+        edge,
+        gap,
+        mirrored: true,
+    };
     draw_spine(table, sizes, roles, gaps, placements, start)
 }
 
-// A hung subtree, on its side. Answers the first row below it.
-pub fn draw_hung(table: &[u8], sizes: &[u16], roles: &[u16], gaps: &[u16], placements: &mut [u16], h: Hang) -> usize
+// A subtree, 0 for none, on the side of the walk's hand: its edge is at that hand's column, its top at the row. Answers the first row below it.
+fn draw_hung(
+    table: &[u8],
+    sizes: &[u16],
+    roles: &[u16],
+    gaps: &[u16],
+    placements: &mut [u16],
+    w: Walk,
+    child: usize,
+    column: usize,
+    top: usize,
+) -> usize
     requires { ⌜ Given (now table) (now sizes) (now roles) (now gaps) (now placements) ⌝ }
-    requires { ⌜ Hanging (now table) (now roles) (now gaps) (sideOf (h .right)) (h .child) (h .edge) (h .top) ⌝ }
-    ensures { λ r. ⌜ Hung (now (table .entry)) (sideOf (h .right)) (h .child) (h .edge) (h .top) (now (placements .entry)) r (now (placements .exit)) ⌝ }
+    requires { ⌜ Hanging (now table) (now roles) (now gaps) (handOf w) child (w .edge) column top ⌝ }
+    ensures { λ r. ⌜ Hung (now (table .entry)) (handOf w) child (inwardsOf (handOf w) (w .edge) column) top (now (placements .entry)) r (now (placements .exit)) ⌝ }
 {
-    if h.child == 0 {
-        return h.top;
+    if child == 0 {
+        return top;
     }
-    if h.right {
-        draw_right(table, sizes, roles, gaps, placements, h.child, h.edge, h.top)
+    let edge = inwards(w.right, w.edge, column);
+    if w.right {
+        draw_right(table, sizes, roles, gaps, placements, child, edge, top)
     } else {
-        draw_left(table, sizes, roles, gaps, placements, h.child, h.edge, h.top)
+        draw_left(table, sizes, roles, gaps, placements, child, edge, top)
     }
 }

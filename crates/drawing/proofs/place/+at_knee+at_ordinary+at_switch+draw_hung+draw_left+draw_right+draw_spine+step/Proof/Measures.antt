@@ -28,14 +28,14 @@ use Rattle.drawing.proofs.place.+at_knee+at_ordinary+at_switch+draw_hun
 use Rattle.drawing.proofs.place.step.Reads as step
 use Rattle.drawing.proofs.place.step.Kinds as step-kinds
 use Rattle.drawing.proofs.place.+at_knee+at_ordinary+at_switch+draw_hung+draw_left+draw_right+draw_spine+step.Lts-step as step-lts
-use Rattle.drawing.proofs.stub.fork_at.Reads as fork-at-reads
+use Rattle.measure.proofs.fork_at.Reads as fork-at-reads
 use Rattle.drawing.proofs.place.greater.Reads as greater-reads
 use Rattle.drawing.proofs.place.inwards.Reads as inwards-reads
 use Rattle.drawing.proofs.place.is_far.Reads as is-far-reads
 use Rattle.drawing.proofs.place.is_knee.Reads as is-knee-reads
 use Rattle.drawing.proofs.place.is_switch.Reads as is-switch-reads
 use Rattle.drawing.proofs.place.onward.Reads as onward-reads
-use Rattle.drawing.proofs.stub.role_at.Reads as role-at-reads
+use Rattle.measure.proofs.roles.role_at.Reads as role-at-reads
 use Rattle.drawing.proofs.place.set_point.Reads as set-point-reads
 
 abbrev pub μ-at-knee : Measures 5 at-knee-kinds.ps ℕ
@@ -48,7 +48,7 @@ abbrev pub μ-at-switch : Measures 5 at-switch-kinds.ps ℕ
 μ-at-switch κs a = 5 * left-over (a .0 .now) (a .1 .1 .1 .1 .1 .1 .0)
 
 abbrev pub μ-draw-hung : Measures 5 draw-hung-kinds.ps ℕ
-μ-draw-hung κs a = 5 * size (treeAt (a .0 .now) (a .1 .1 .1 .1 .1 .0 .child)) + 4
+μ-draw-hung κs a = 5 * size (treeAt (a .0 .now) (a .1 .1 .1 .1 .1 .1 .0)) + 4
 
 abbrev pub μ-draw-left : Measures 5 draw-left-kinds.ps ℕ
 μ-draw-left κs a = 5 * size (treeAt (a .0 .now) (a .1 .1 .1 .1 .1 .0)) + 3
@@ -111,7 +111,7 @@ abbrev pub step-below : ℕ → In 5 step-kinds.ps
 step-below t = and 5 step-kinds.ps (falls 5 step-kinds.ps _<_ μ-step t) step.Pre
 
 abbrev pub at-knee-claims : ℕ → at-knee-lts.Claims
-at-knee-claims t = (set-point-reads.Asked, set-point-reads.Learnt, greater-reads.Asked, greater-reads.Learnt, is-far-reads.Asked, is-far-reads.Learnt, inwards-reads.Asked, inwards-reads.Learnt, draw-hung-below t, draw-hung.Post, onward-reads.Asked, onward-reads.Learnt)
+at-knee-claims t = (set-point-reads.Asked, set-point-reads.Learnt, greater-reads.Asked, greater-reads.Learnt, is-far-reads.Asked, is-far-reads.Learnt, draw-hung-below t, draw-hung.Post, onward-reads.Asked, onward-reads.Learnt)
 
 abbrev pub at-ordinary-claims : ℕ → at-ordinary-lts.Claims
 at-ordinary-claims t = (inwards-reads.Asked, inwards-reads.Learnt, set-point-reads.Asked, set-point-reads.Learnt, draw-hung-below t, draw-hung.Post, greater-reads.Asked, greater-reads.Learnt, onward-reads.Asked, onward-reads.Learnt)
@@ -120,7 +120,7 @@ abbrev pub at-switch-claims : ℕ → at-switch-lts.Claims
 at-switch-claims t = (inwards-reads.Asked, inwards-reads.Learnt, set-point-reads.Asked, set-point-reads.Learnt, draw-hung-below t, draw-hung.Post)
 
 abbrev pub draw-hung-claims : ℕ → draw-hung-lts.Claims
-draw-hung-claims t = (draw-right-below t, draw-right.Post, draw-left-below t, draw-left.Post)
+draw-hung-claims t = (inwards-reads.Asked, inwards-reads.Learnt, draw-right-below t, draw-right.Post, draw-left-below t, draw-left.Post)
 
 abbrev pub draw-left-claims : ℕ → draw-left-lts.Claims
 draw-left-claims t = (draw-spine-below t, draw-spine.Post)
@@ -129,7 +129,7 @@ abbrev pub draw-right-claims : ℕ → draw-right-lts.Claims
 draw-right-claims t = (draw-spine-below t, draw-spine.Post)
 
 abbrev pub draw-spine-claims : ℕ → draw-spine-lts.Claims
-draw-spine-claims t = (step-below t, step.Post, inwards-reads.Asked, inwards-reads.Learnt, draw-hung-below t, draw-hung.Post)
+draw-spine-claims t = (step-below t, step.Post, draw-hung-below t, draw-hung.Post)
 
 abbrev pub step-claims : ℕ → step-lts.Claims
 step-claims t = (fork-at-reads.Asked, fork-at-reads.Learnt, role-at-reads.Asked, role-at-reads.Learnt, is-knee-reads.Asked, is-knee-reads.Learnt, at-knee-below t, at-knee.Post, is-switch-reads.Asked, is-switch-reads.Learnt, at-switch-below t, at-switch.Post, at-ordinary-below t, at-ordinary.Post)
