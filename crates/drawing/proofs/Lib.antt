@@ -6,3 +6,4 @@ pub mod Columns
 pub mod Onward
 pub mod Walking
 pub mod Starting
+pub mod Whole
