@@ -3,3 +3,5 @@ pub mod Unique
 pub mod Ends
 pub mod Clashes
 pub mod Decide
+pub mod Search
+pub mod Rows

@@ -1,1 +1,3 @@
 // The check of a drawing against a table.
+mod points;
+mod touch;
