@@ -1,4 +1,4 @@
--- The laws of an accepted table, one of whose bytes give no refusal: all that later crates use of it. Rests on Lists and Chain.
+-- The laws of an accepted table, one of whose bytes give no refusal: all that later crates use of it. Rests on Lists, Chain and Sound.
 use mathlib.Core.Path.{_≡_, refl, sym, ap, _∙_, subst}
 use mathlib.Core.Logic.{_↔_, _⊎_, inl, inr, ⊎-elim, ⊎-map}
 use mathlib.Core.Bool.{Bool, true, false, not, cond, _&&_, _||_}
@@ -7,23 +7,19 @@ use Prim.Native.Nat.{ℕ, zero, suc, _+_, _*_, _%_, _≤_, _<_}
 use native.Mathlib.Omega.{arith}
 use lib.Dec.{T, eqb, ltb, eqb→eq, eqb·suc-zero}
 use lib.ListN.{length}
-use borrow.Author.Tests.{ltb-false, le-ltb, leb-false, eqb-true, eqb-false, not-false}
+use borrow.Author.Tests.{ltb-false, le-ltb, leb-false, eqb-true, eqb-false, ne-eqb, not-false}
 use Rattle.table.specs.Lists.{any, member, repeats, count}
 use Rattle.table.specs.Table.{Side, left, right, records, nextOf, leftOf, rightOf, linkOf, rootOf, follow, chain}
 use Rattle.table.specs.Tree.{Tree, none, node, size, nodes, descend, treeAt, tree}
 use Rattle.table.specs.Refusal.{badLength, badHead, beyond, badChain, stray, badLinks, isEmpty, links, named, badTree, shortPlacements, fault, refusal}
 use Rattle.table.proofs.Lists.{T-false, passes, or-false, any-false, same, Alike, alike, member-cons, member-count, member-none, Distinct, repeats-count, Within, within, length-within, length-below, links-within}
+use Rattle.table.proofs.Sound.{unless, distinct, inside, shorter, child, counted}
 use Rattle.table.proofs.Chain.{follow-zero, follow-none, descend-none, follow-more, length-nodes, nodes-zero, nodes-deeper, descend-more, size-link, reached, namer, names, names-once}
 
 -- No refusal, no cause of one.
 no-cause : (b : Bool) (n m : ℕ) → cond b (suc n) m ≡ 0 → (b ≡ false) × (m ≡ 0)
 no-cause true n m e = absurd (omega arith)
 no-cause false n m e = (refl, e)
-
--- A test that holds unless a passes.
-unless : (a b : Bool) → not a && b ≡ false → T a ⊎ (b ≡ false)
-unless true b e = inl tt
-unless false b e = inr e
 
 tests : (e a b c d : Bool) → not e && (a || (b || (c || d))) ≡ false → T e ⊎ ((a ≡ false) × (b ≡ false) × (c ≡ false) × (d ≡ false))
 tests true a b c d h = inl tt
@@ -61,24 +57,14 @@ module _ (t : List ℕ) (ok : fault t ≡ 0) where
       omega (arith, eqb-false (length t) 0 (a .0), eqb-true (length t % 8) 0 (not-false (eqb (length t % 8) 0) (b .0)), ltb-false 32776 (length t) (b .1))
 
   -- The chain: none of its records twice, each within the table, fewer than there are records, and ended by a zero.
-  chain-good : (any (beyond t) (chain t) ≡ false) × Distinct (chain t)
-  unfolding badChain
-  chain-good = or-false (any (beyond t) (chain t)) (repeats (chain t)) .0 (fault-none .2)
-
   pub chain-distinct : Distinct (chain t)
-  chain-distinct = chain-good .1
+  chain-distinct = distinct t (fault-none .2)
 
   pub chain-within : (k : ℕ) → T (member k (chain t)) → (1 ≤ k) × (k < records t)
-  unfolding beyond chain
-  chain-within k h =
-      let some : k ≡ 0 → ⊥ = λ e. omega (arith, follow-zero (records t) t (nextOf t 0), member-count 0 (chain t) .0 (rw e at h)) in
-      omega (arith, leb-false (records t) k (any-false (beyond t) (chain t) .0 (chain-good .0) k h))
+  chain-within = inside t (fault-none .2)
 
   pub chain-length : length (chain t) < records t
-  unfolding repeats
-  chain-length =
-      length-below (records t) (0 ∷ chain t) (or-false (member 0 (chain t)) (repeats (chain t)) .1 (T-false (member 0 (chain t)) .0 (λ h. omega (arith, chain-within 0 h)), chain-distinct))
-      (λ k h. ⊎-elim (λ (e : k ≡ 0). omega (arith, records-bounds)) (λ (m : T (member k (chain t))). chain-within k m .1) (member-cons k 0 (chain t) .0 h))
+  chain-length = shorter t (fault-none .2) (records-bounds .0)
 
   pub chain-ended : (n : ℕ) → follow (records t + n) t (nextOf t 0) ≡ chain t
   unfolding chain
@@ -86,18 +72,7 @@ module _ (t : List ℕ) (ok : fault t ≡ 0) where
 
   -- The links of chained records, and the root.
   pub links-chained : (k : ℕ) (s : Side) → T (member k (chain t)) → (linkOf t s k ≡ 0) ⊎ T (member (linkOf t s k) (chain t))
-  unfolding badLinks stray
-  links-chained k s h =
-      side s (or-false (stray t (leftOf t k)) (stray t (rightOf t k)) .0 (any-false (λ n. stray t (leftOf t n) || stray t (rightOf t n)) (chain t) .0 (fault-none .3) k h))
-    where
-      link : (n : ℕ) → stray t n ≡ false → (n ≡ 0) ⊎ T (member n (chain t))
-      link n e =
-          ⊎-map (eqb→eq n 0) (λ (f : beyond t n || not (member n (chain t)) ≡ false). passes (member n (chain t)) (or-false (beyond t n) (not (member n (chain t))) .0 f .1))
-          (unless (eqb n 0) (beyond t n || not (member n (chain t))) e)
-
-      side : (s : Side) → (stray t (leftOf t k) ≡ false) × (stray t (rightOf t k) ≡ false) → (linkOf t s k ≡ 0) ⊎ T (member (linkOf t s k) (chain t))
-      side left b = link (leftOf t k) (b .0)
-      side right b = link (rightOf t k) (b .1)
+  links-chained = child t (fault-none .3)
 
   -- Row 5, read off.
   abbrev Rooted : Type 0
@@ -137,20 +112,9 @@ module _ (t : List ℕ) (ok : fault t ≡ 0) where
 
   -- A record other than zero is counted, as the root and as what chained records name, no more often than it stands on the chain.
   named-within : (x : ℕ) → 0 < x → same x (rootOf t) + named t x ≤ count x (chain t)
-  named-within x h = go (alike x (rootOf t)) (named t x) refl
-    where
-      top : x ≡ rootOf t → T (member (rootOf t) (chain t)) → (named t x ≡ 0) × (1 ≤ count x (chain t))
-      top e r = rw e (some (rootOf t) r .1, member-count (rootOf t) (chain t) .0 r)
-
-      once : T (member x (chain t)) → (x ≡ rootOf t → ⊥) → named t x ≤ count x (chain t)
-      once c n = ⊎-elim (λ (e : x ≡ rootOf t). absurd (n e)) (λ (e : named t x ≡ 1). omega (arith, member-count x (chain t) .0 c)) (some x c .2 x c)
-
-      go : Alike x (rootOf t) → (m : ℕ) → named t x ≡ m → same x (rootOf t) + named t x ≤ count x (chain t)
-      go (inl e) m f = ⊎-elim (λ (z : (chain t ≡ []) × (rootOf t ≡ 0)). absurd (omega arith)) (λ (r : T (member (rootOf t) (chain t))). omega (arith, top (e .0) r)) root
-      go (inr e) zero f = omega arith
-      go (inr e) (suc m) f =
-          let p = namer t x (chain t) (omega arith) in
-          ⊎-elim (λ (z : linkOf t (p .1) (p .0) ≡ 0). absurd (omega (arith, p .3))) (λ (c : T (member (linkOf t (p .1) (p .0)) (chain t))). omega (arith, once (rw (p .3) at c) (e .0))) (links-chained (p .0) (p .1) (p .2))
+  unfolding links count
+  named-within x h =
+      ⊎-elim (λ (e : T (isEmpty t)). let z = empty e in rw (z .0, z .1) (rw (ne-eqb x 0 (λ d. omega arith)) (omega arith))) (λ (r : Rooted). counted t (fault-none .3) (r .0) (r .1) (r .2) x h) rooted
 
   -- The tree: its records are the chain's, each once.
   pub nodes-within : (n : ℕ) → Within (nodes (descend n t (rootOf t))) (chain t)
