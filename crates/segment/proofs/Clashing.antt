@@ -1,6 +1,6 @@
 -- Two segments clash exactly where the test `clashes` says so. With a common end they do where the other end of one lies on the other; with none, where they share a point.
 use mathlib.Core.Path.{_≡_, refl, ap, ap₂, sym, subst, _∙_}
-use mathlib.Core.Logic.{_↔_, _≢_, _⊎_, inl, inr, ⊎-elim, ⊎-swap, Ne·symm, Iff·trans}
+use mathlib.Core.Logic.{_↔_, _≢_, _⊎_, inl, inr, ⊎-elim, ⊎-map, ⊎-swap, Ne·symm, Iff·trans}
 use mathlib.Core.Bool.{Bool, true, cond, _&&_, _||_}
 use Prim.Native.Nat.{ℕ, _+_, _*_, _≤_, _<_, max, min}
 use native.Mathlib.Nat.{le-dest, eq-of-mul-eq-mul-left}
@@ -11,7 +11,7 @@ use Rattle.segment.specs.declared.Point.{Point}
 use Rattle.segment.specs.Segment.{at, Share, Is, Lies, Clash}
 use Rattle.segment.proofs.Decides.{Decides, eq-decides, and-decides, or-decides, cond-decides, guard-decides, same-meaning}
 use Rattle.segment.proofs.CrossProduct.{Weights, weights, on, on-turn}
-use Rattle.segment.proofs.SharedPoint.{meets, meets-decides-share, lies-decides, rows-apart}
+use Rattle.segment.proofs.SharedPoint.{meets, at-start, meets-decides-share, lies-decides, rows-apart}
 
 unfoldable pub same : Point → Point → Bool
 same P Q = eqb (P .column) (Q .column) && eqb (P .row) (Q .row)
@@ -28,12 +28,21 @@ clashes P Q R S = meets P Q R S &&
 pub point : {P Q : Point} → P .column ≡ Q .column → P .row ≡ Q .row → P ≡ Q
 point c r = ap₂ at c r
 
+column-same : {P Q : Point} → P ≡ Q → P .column ≡ Q .column
+column-same e = ap (λ (X : Point). X .column) e
+
+row-same : {P Q : Point} → P ≡ Q → P .row ≡ Q .row
+row-same e = ap (λ (X : Point). X .row) e
+
 pub same-decides : (P Q : Point) → Decides (same P Q) (P ≡ Q)
 unfolding same
-same-decides P Q = same-meaning (λ z. point (z .0) (z .1), λ e. (ap (λ (X : Point). X .column) e, ap (λ (X : Point). X .row) e)) (and-decides (eq-decides _ _) (eq-decides _ _))
+same-decides P Q = same-meaning (λ z. point (z .0) (z .1), λ e. (column-same e, row-same e)) (and-decides (eq-decides _ _) (eq-decides _ _))
 
 pub clash→share : {P Q R S : Point} → Clash P Q R S → Share P Q R S
 clash→share h = record { q = h .q; x = h .x; y = h .y; q≥1 = h .q≥1; on-PQ = h .on-PQ; on-RS = h .on-RS }
+
+pub clash-rows-apart : {P Q R S : Point} → max (P .row) (Q .row) < min (R .row) (S .row) → Clash P Q R S → ⊥
+clash-rows-apart h c = rows-apart h (clash→share c)
 
 -- ---- symmetries
 
@@ -65,12 +74,11 @@ lies→clash {P} {A} {B} n l = let w = weights (l .on) in record {
   q≥1 = omega (arith, l .q≥1);
   on-PQ = on (record { u = l .q; v = l .q; sum = omega arith; in-column = omega arith; in-row = omega arith });
   on-RS = on (record { u = l .q + w .u; v = w .v; sum = omega (arith, w .sum); in-column = omega (arith, w .in-column); in-row = omega (arith, w .in-row) });
-  no-common-end = λ E a b i. n (point
-      (middle _ _ _ _ (l .q≥1) (i .in-column) (⊎-elim (λ e. inl (ap (λ (X : Point). X .column) e)) (λ e. inr (ap (λ (X : Point). X .column) e)) a))
-      (middle _ _ _ _ (l .q≥1) (i .in-row) (⊎-elim (λ e. inl (ap (λ (X : Point). X .row) e)) (λ e. inr (ap (λ (X : Point). X .row) e)) a)));
+  no-common-end = λ E a b i. n
+      (point (middle _ _ _ _ (l .q≥1) (i .in-column) (⊎-map column-same column-same a)) (middle _ _ _ _ (l .q≥1) (i .in-row) (⊎-map row-same row-same a)));
 }
 
--- the shared point is farther along P A than along P B: B lies on P A
+-- the shared point is no greater part of the way to A than of the way to B: B lies on P A
 nearer : {P A B : Point} {q x y : ℕ} (a : Weights P A q x y) (b : Weights P B q x y) → a .v ≤ b .v → 1 ≤ b .v → Lies B P A
 nearer {P} {A} {B} a b h one = go (le-dest h)
   where
@@ -100,6 +108,19 @@ clash→lies {P} {A} {B} h = go (weights (h .on-PQ)) (weights (h .on-RS)) (decLe
     go a b (yes l) (yes one) = inr (nearer a b l one)
     go a b (yes l) (no z) = absurd (h .no-common-end P (inl refl) (inl refl) (at-end b (omega arith)))
     go a b (no l) z = inl (nearer b a (omega arith) (omega arith))
+
+-- ---- a node B on a line that it does not end, and a line from B
+pub on-line→clash : {B C P Q : Point} → B ≢ P → B ≢ Q → Lies B P Q → Clash P Q B C
+on-line→clash {B} {C} n m l = record {
+  q = l .q;
+  x = l .q * B .column;
+  y = l .q * B .row;
+  q≥1 = l .q≥1;
+  on-PQ = l .on;
+  on-RS = at-start B C (l .q);
+  no-common-end = λ E a b i. let e = point (eq-of-mul-eq-mul-left (l .q) (l .q≥1) _ _ (i .in-column)) (eq-of-mul-eq-mul-left (l .q) (l .q≥1) _ _ (i .in-row)) in
+      ⊎-elim (λ k. n (e ∙ k)) (λ k. m (e ∙ k)) a;
+}
 
 -- ---- the theorem
 

@@ -1,5 +1,5 @@
 -- A test that computes, and the statement that it decides.
-use mathlib.Core.Path.{_≡_, sym, subst}
+use mathlib.Core.Path.{_≡_, subst}
 use mathlib.Core.Bool.{Bool, true, false, not, cond, _&&_, _||_}
 use mathlib.Core.Logic.{_↔_, _⊎_, inl, inr, ⊎-elim, Iff·trans, Iff·and}
 use Prim.Native.Nat.{ℕ, _≤_}
@@ -45,26 +45,3 @@ T-guard false b f g = (λ t. absurd t, f)
 
 pub guard-decides : {a b : Bool} {A B : Type 0} → Decides a A → (B → A) → (A → Decides b B) → Decides (a && b) B
 guard-decides {a} {b} p f g = record { is = T-guard a b (λ z. p .is .1 (f z)) (λ t. g (p .is .0 t) .is) }
-
--- what the answer of a call says
-pub holds : {b : Bool} {A : Type 0} → b ≡ true → T b ↔ A → A
-holds e h = h .0 (subst T (sym e) tt)
-
-pub fails : {b : Bool} {A : Type 0} → b ≡ false → T b ↔ A → A → ⊥
-fails e h a = subst T e (h .1 a)
-
-pub answer : (b : Bool) {b′ : Bool} {A : Type 0} → b ≡ b′ → Decides b′ A → T b ↔ A
-answer b {A = A} e d = subst (λ (t : Bool). T t ↔ A) (sym e) (d .is)
-
--- what is left of a test once its first part is known
-pub and-skip : {s t z : Bool} → s ≡ true → (s && t) ≡ z → t ≡ z
-and-skip e h = cc
-
-pub and-stop : {s z : Bool} (t : Bool) → s ≡ false → (s && t) ≡ z → false ≡ z
-and-stop t e h = cc
-
-pub or-skip : {s t z : Bool} → s ≡ false → (s || t) ≡ z → t ≡ z
-or-skip e h = cc
-
-pub or-stop : {s z : Bool} (t : Bool) → s ≡ true → (s || t) ≡ z → true ≡ z
-or-stop t e h = cc

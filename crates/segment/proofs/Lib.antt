@@ -5,3 +5,4 @@ pub mod CrossProduct
 pub mod Range
 pub mod SharedPoint
 pub mod Clashing
+pub mod Answers

@@ -1,20 +1,18 @@
 -- Two segments share a point exactly where the test `meets` says so, for all natural coordinates. Rests on the laws of the cross product.
 use mathlib.Core.Path.{_≡_, refl, ap}
 use mathlib.Core.Logic.{_↔_, _≢_, _⊎_, inl, inr}
-use mathlib.Core.Bool.{Bool, _&&_, _||_}
+use mathlib.Core.Bool.{Bool, _&&_}
 use Prim.Native.Nat.{ℕ, _+_, _*_, _≤_, _<_, min, max}
 use native.Mathlib.Nat.{mul-le-mul-left, le-of-mul-le-mul-left, le-dest, min-le-left, min-le-right, le-max-left, le-max-right}
 use native.Mathlib.Decide.{decLe, decLt, ℕ-discrete}
 use native.Mathlib.Omega.{arith}
-use lib.Dec.{T, leb}
-use lib.IntN.{ℤ, pos}
-use lib.Signed.{leZ}
+use lib.Dec.{T}
 use Rattle.segment.specs.declared.Point.{Point}
-use Rattle.segment.specs.Segment.{On, Share, Lies, cross}
+use Rattle.segment.specs.Segment.{On, Share, Lies}
 use Rattle.segment.specs.Test.{overlap, spans, astride}
 use Rattle.segment.proofs.Decides.{Decides, le-decides, and-decides, or-decides, same-meaning}
 use Rattle.segment.proofs.Difference.{diff-nonneg, diff-nonpos}
-use Rattle.segment.proofs.CrossProduct.{plus, minus, cross-diff, Weights, weights, on, on-turn, linear, cramer-column, cramer-row}
+use Rattle.segment.proofs.CrossProduct.{plus, minus, cross-diff, weights, on, on-turn, linear, cramer-column, cramer-row}
 
 -- the test of shared points
 unfoldable pub meets : Point → Point → Point → Point → Bool
@@ -40,29 +38,11 @@ unfolding astride spans
 astride-decides A B X Y =
     let x = cross-diff A B X in
     let y = cross-diff A B Y in
-    or-decides (and-decides (diff-nonpos x) (diff-nonneg y)) (and-decides (diff-nonpos y) (diff-nonneg x))
+    or-decides (and-decides (diff-nonpos _ x) (diff-nonneg _ y)) (and-decides (diff-nonpos _ y) (diff-nonneg _ x))
 
 meets-decides : (P Q R S : Point) → Decides (meets P Q R S) (Meets P Q R S)
 unfolding meets
 meets-decides P Q R S = and-decides (overlap-decides _ _ _ _) (and-decides (overlap-decides _ _ _ _) (and-decides (astride-decides _ _ _ _) (astride-decides _ _ _ _)))
-
--- the tests from the answers of calls
-pub overlap-by : {l h l′ h′ : ℕ} (a b x y : ℕ) → l ≡ min a b → h ≡ max x y → l′ ≡ min x y → h′ ≡ max a b → (leb l h && leb l′ h′) ≡ overlap a b x y
-unfolding overlap
-overlap-by a b x y e f g i = cc
-
-pub spans-by : {d′ e′ : ℤ} (d e : ℤ) → d′ ≡ d → e′ ≡ e → (leZ d′ (pos 0) && leZ (pos 0) e′) ≡ spans d e
-unfolding spans
-spans-by d e x y = cc
-
-pub astride-by : {d e : ℤ} {s t : Bool} (A B X Y : Point) → d ≡ cross A B X → e ≡ cross A B Y → s ≡ spans d e → t ≡ spans e d → (s || t) ≡ astride A B X Y
-unfolding astride
-astride-by A B X Y d e s t = cc
-
-pub meets-by : {o n a b : Bool} (P Q R S : Point) → o ≡ overlap (P .row) (Q .row) (R .row) (S .row) → n ≡ overlap (P .column) (Q .column) (R .column) (S .column) →
-    a ≡ astride P Q R S → b ≡ astride R S P Q → (o && (n && (a && b))) ≡ meets P Q R S
-unfolding meets
-meets-by P Q R S o n a b = cc
 
 -- ---- symmetries of the meaning
 
@@ -101,6 +81,7 @@ mean a b x y u v t w q m h k one e f = le-of-mul-le-mul-left {k = q} (omega (
 balance : (t w f g b d : ℕ) → 1 ≤ t + w → t * f + w * g ≡ t * b + w * d → b < f → d < g → ⊥
 balance t w f g b d one e h k = omega (arith, mul-le-mul-left t h, mul-le-mul-left w k)
 
+-- so where they balance f - b and g - d, the two are not of one sign
 opposed : (t w f g b d : ℕ) → 1 ≤ t + w → t * f + w * g ≡ t * b + w * d → ((f ≤ b) × (d ≤ g)) ⊎ ((g ≤ d) × (b ≤ f))
 opposed t w f g b d one e = go (decLe f b) (decLe d g)
   where
@@ -172,6 +153,7 @@ touch A B X Y l h k z = go (le-dest h) (le-dest k)
       on-RS = at-start X Y (u + v);
     }
 
+-- whichever of A and B has the lesser column
 touch-either : (A B X Y : Point) → A .column ≢ B .column → min (A .column) (B .column) ≤ X .column → X .column ≤ max (A .column) (B .column) → plus A B X ≡ minus A B X → Share A B X Y
 touch-either A B X Y n h k z = go (decLe (A .column) (B .column))
   where
@@ -179,6 +161,7 @@ touch-either A B X Y n h k z = go (decLe (A .column) (B .column))
     go (yes l) = touch A B X Y (omega arith) (omega arith) (omega arith) z
     go (no l) = share-exchange (share-turn (share-exchange (touch B A X Y (omega arith) (omega arith) (omega arith) (omega (arith, z)))))
 
+-- all four are in line, the columns overlap, and a segment has two columns
 record Line (P Q R S : Point) : Type 0 where
   z₁ : plus P Q R ≡ minus P Q R
   z₂ : plus P Q S ≡ minus P Q S
@@ -204,6 +187,7 @@ wide-line P Q R S l = go (decLe (min (P .column) (Q .column)) (min (R .column) (
     go (yes h) = first P Q R S l h
     go (no h) = share-exchange (first R S P Q (record { z₁ = l .z₃; z₂ = l .z₄; z₃ = l .z₁; z₄ = l .z₂; low = l .high; high = l .low; wide = omega (arith, l .wide) }) (omega arith))
 
+-- by columns, else by rows; else all four are one point
 in-line : (P Q R S : Point) → plus P Q R ≡ minus P Q R → plus P Q S ≡ minus P Q S → plus R S P ≡ minus R S P → plus R S Q ≡ minus R S Q →
     Overlap (P .row) (Q .row) (R .row) (S .row) → Overlap (P .column) (Q .column) (R .column) (S .column) → Share P Q R S
 unfolding flip

@@ -20,7 +20,7 @@ fn minus(a: u16, b: u16) -> i64
     a as i64 - b as i64
 }
 
-// The cross product of a - p and b - p: below zero where a is left of b as seen from p, rows growing downward.
+// The cross product of a - p and b - p. For a and b below p: below zero where a is to the left of b.
 pub fn cross(p: Point, a: Point, b: Point) -> i64
     ensures { λ r. ⌜ r ≡ Meaning.cross p a b ⌝ }
 {

@@ -3,7 +3,7 @@ use borrow.Author.Needs.{needs}
 use mathlib.Core.Logic.{inl, inr, ⊎-elim}
 use mathlib.Core.Path.{sym, subst}
 use lib.Dec.{T}
-use Rattle.segment.proofs.Decides.{holds, fails}
+use Rattle.segment.proofs.Answers.{fails}
 use Rattle.segment.proofs.along.Statement.{statement}
 use Rattle.segment.proofs.along.Tie as tie
 

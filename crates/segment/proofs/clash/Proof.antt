@@ -2,8 +2,8 @@
 use borrow.Author.Needs.{needs}
 use borrow.Author.Tests.{not-true, not-false}
 use mathlib.Core.Logic.{Iff·trans}
-use Rattle.segment.proofs.Decides.{holds, fails}
 use Rattle.segment.proofs.Clashing.{clash→share, common-PR, common-PS, common-QR, common-QS, no-common}
+use Rattle.segment.proofs.Answers.{holds, fails}
 use Rattle.segment.proofs.clash.Statement.{statement}
 use Rattle.segment.proofs.clash.Tie as tie
 
@@ -70,21 +70,5 @@ returns-6 c =
     )
 
 pub clash-spec : {M : Type 1} → statement M
-clash-spec =
-    tie.close
-    (tie.spec
-    meets-requires
-    returns
-    same-requires
-    along-requires
-    returns-2
-    same-requires-2
-    along-requires-2
-    returns-3
-    same-requires-3
-    along-requires-3
-    returns-4
-    same-requires-4
-    along-requires-4
-    returns-5
-    returns-6)
+clash-spec = tie.close (tie.spec meets-requires returns same-requires along-requires returns-2 same-requires-2 along-requires-2 returns-3
+    same-requires-3 along-requires-3 returns-4 same-requires-4 along-requires-4 returns-5 returns-6)

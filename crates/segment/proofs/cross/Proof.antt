@@ -1,6 +1,7 @@
 -- `segment::cross` meets its contract: its products and their difference fit, since columns and rows are below 65536.
 use borrow.Author.Needs.{needs}
 use native.Mathlib.Omega.{arith}
+use lib.Dec.{lit<}
 use Rattle.segment.proofs.Range.{given, Grid, fits-product, fits-cross, read-cross}
 use Rattle.segment.proofs.cross.Statement.{statement}
 use Rattle.segment.proofs.cross.Tie as tie
@@ -24,13 +25,13 @@ mul-result : tie.Need-mul-result
 mul-result c = let g = grids (c .before .before) in
     let d₁ = c .before .minus in
     let d₂ = c .minus2 in
-    fits-product (given (d₁ .ensures) (d₁ .ok)) (given (d₂ .ensures) (d₂ .ok)) (g .1 .0 .column<) (g .0 .column<) (g .1 .1 .row<) (g .0 .row<)
+    fits-product _ (lit< tt) (given _ (d₁ .ensures) (d₁ .ok)) (given _ (d₂ .ensures) (d₂ .ok)) (g .1 .0 .column<) (g .0 .column<) (g .1 .1 .row<) (g .0 .row<)
 
 mul-result-2 : tie.Need-mul-result-2
 mul-result-2 c = let g = grids (c .before .before .before .before) in
     let d₃ = c .before .minus3 in
     let d₄ = c .minus4 in
-    fits-product (given (d₃ .ensures) (d₃ .ok)) (given (d₄ .ensures) (d₄ .ok)) (g .1 .0 .row<) (g .0 .row<) (g .1 .1 .column<) (g .0 .column<)
+    fits-product _ (lit< tt) (given _ (d₃ .ensures) (d₃ .ok)) (given _ (d₄ .ensures) (d₄ .ok)) (g .1 .0 .row<) (g .0 .row<) (g .1 .1 .column<) (g .0 .column<)
 
 sub-result : tie.Need-sub-result
 sub-result c = let g = grids (c .before .before .before .before) in
@@ -38,7 +39,7 @@ sub-result c = let g = grids (c .before .before .before .before) in
     let d₂ = c .before .before .minus2 in
     let d₃ = c .before .minus3 in
     let d₄ = c .minus4 in
-    fits-cross (g .0) (g .1 .0) (g .1 .1) (given (d₁ .ensures) (d₁ .ok)) (given (d₂ .ensures) (d₂ .ok)) (given (d₃ .ensures) (d₃ .ok)) (given (d₄ .ensures) (d₄ .ok))
+    fits-cross _ (lit< tt) (g .0) (g .1 .0) (g .1 .1) (given _ (d₁ .ensures) (d₁ .ok)) (given _ (d₂ .ensures) (d₂ .ok)) (given _ (d₃ .ensures) (d₃ .ok)) (given _ (d₄ .ensures) (d₄ .ok))
 
 returns : tie.Need-returns
 returns c = let g = grids (c .before .before .before .before) in
@@ -46,7 +47,7 @@ returns c = let g = grids (c .before .before .before .before) in
     let d₂ = c .before .before .minus2 in
     let d₃ = c .before .minus3 in
     let d₄ = c .minus4 in
-    read-cross (g .0) (g .1 .0) (g .1 .1) (given (d₁ .ensures) (d₁ .ok)) (given (d₂ .ensures) (d₂ .ok)) (given (d₃ .ensures) (d₃ .ok)) (given (d₄ .ensures) (d₄ .ok))
+    read-cross _ (lit< tt) (g .0) (g .1 .0) (g .1 .1) (given _ (d₁ .ensures) (d₁ .ok)) (given _ (d₂ .ensures) (d₂ .ok)) (given _ (d₃ .ensures) (d₃ .ok)) (given _ (d₄ .ensures) (d₄ .ok))
 
 pub cross-spec : {M : Type 1} → statement M
 cross-spec = tie.close (tie.spec minus-requires minus-requires-2 mul-result minus-requires-3 minus-requires-4 mul-result-2 sub-result returns)

@@ -3,8 +3,8 @@ use borrow.Author.Needs.{needs}
 use borrow.Author.Tests.{not-true, not-false}
 use mathlib.Core.Path.{refl, _∙_}
 use mathlib.Core.Bool.{false}
-use Rattle.segment.proofs.Decides.{answer, and-skip, and-stop}
-use Rattle.segment.proofs.SharedPoint.{meets-by, meets-decides-share}
+use Rattle.segment.proofs.SharedPoint.{meets-decides-share}
+use Rattle.segment.proofs.Answers.{answer, and-skip, and-stop, meets-by}
 use Rattle.segment.proofs.meets.Statement.{statement}
 use Rattle.segment.proofs.meets.Tie as tie
 

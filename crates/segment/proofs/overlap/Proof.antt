@@ -2,8 +2,7 @@
 use borrow.Author.Needs.{needs}
 use borrow.Author.Tests.{le-leb, lt-leb}
 use mathlib.Core.Path.{refl, _∙_}
-use Rattle.segment.proofs.Decides.{and-skip, and-stop}
-use Rattle.segment.proofs.SharedPoint.{overlap-by}
+use Rattle.segment.proofs.Answers.{and-skip, and-stop, overlap-by}
 use Rattle.segment.proofs.overlap.Statement.{statement}
 use Rattle.segment.proofs.overlap.Tie as tie
 

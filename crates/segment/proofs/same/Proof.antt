@@ -1,8 +1,8 @@
 -- `segment::same` meets its contract.
 use borrow.Author.Tests.{eq-eqb, ne-eqb}
 use mathlib.Core.Path.{refl, _∙_}
-use Rattle.segment.proofs.Decides.{answer, and-skip, and-stop}
 use Rattle.segment.proofs.Clashing.{same, same-decides}
+use Rattle.segment.proofs.Answers.{answer, and-skip, and-stop}
 use Rattle.segment.proofs.same.Statement.{statement}
 use Rattle.segment.proofs.same.Tie as tie
 

@@ -2,8 +2,7 @@
 use mathlib.Core.Path.{refl, _∙_}
 use mir.Syntax.{w64}
 use mir.ValLaws.{toZ-ofZ}
-use Rattle.segment.proofs.Decides.{and-skip, and-stop}
-use Rattle.segment.proofs.SharedPoint.{spans-by}
+use Rattle.segment.proofs.Answers.{and-skip, and-stop, spans-by}
 use Rattle.segment.proofs.spans.Statement.{statement}
 use Rattle.segment.proofs.spans.Tie as tie
 
