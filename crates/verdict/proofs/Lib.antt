@@ -5,3 +5,7 @@ pub mod Clashes
 pub mod Decide
 pub mod Search
 pub mod Rows
+pub mod Nodes
+pub mod Listing
+pub mod Parent
+pub mod Turning

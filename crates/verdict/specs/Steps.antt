@@ -1,13 +1,16 @@
 -- What the steps of a check say to each other. No promise to a caller is here.
 use mathlib.Core.Path.{_≡_}
+use mathlib.Core.Logic.{_≢_}
 use mathlib.Core.Bool.{cond}
 use mathlib.Core.List.{List, [], _∷_}
 use Prim.Native.Nat.{ℕ, _+_, _*_, _≤_, _<_}
-use lib.Dec.{eqb}
+use lib.Dec.{T, eqb}
+use lib.IntN.{pos}
+use lib.Signed.{ltZ}
 use lib.ListN.{length, getD, take}
 use Rattle.segment.specs.declared.Point.{Point}
-use Rattle.segment.specs.Segment.{at, Clash}
-use Rattle.table.specs.Table.{Side, rootOf, chain}
+use Rattle.segment.specs.Segment.{at, cross}
+use Rattle.table.specs.Table.{Side, records, leftOf, rightOf, linkOf, rootOf, chain}
 use Rattle.table.specs.Refusal.{fault}
 use Rattle.verdict.specs.Lines.{pointOf, Line}
 
@@ -68,7 +71,18 @@ without r (k ∷ ks) = cond (eqb k r) (without r ks) (k ∷ without r ks)
 
 -- The first n numbers of `to` are the nodes but the root, in the order of the chain, and those of `from` their parents.
 pub record Listed (t : List ℕ) (n : ℕ) (from to : List ℕ) : Type 0 where
+  pub few : n ≤ 4097
   pub from-long : n ≤ length from
   pub to-long : n ≤ length to
   pub children : take n to ≡ without (rootOf t) (chain t)
   pub parents : (i k : ℕ) (s : Side) → i < n → Line t k s (getD to i 0) → getD from i 0 ≡ k
+
+-- Record k and its links are records, and all records have their places among the placements.
+pub record Placeable (t p : List ℕ) (k : ℕ) : Type 0 where
+  pub inside : k < records t
+  pub links : (s : Side) → linkOf t s k < records t
+  pub places : 2 * records t ≤ length p
+
+-- 24, of one node: it has two children, and a·d − b·c is not below zero
+abbrev pub Turned : List ℕ → List ℕ → ℕ → Type 0
+Turned t p k = (leftOf t k ≢ 0) × ((rightOf t k ≢ 0) × (T (ltZ (cross (pointOf p k) (pointOf p (leftOf t k)) (pointOf p (rightOf t k))) (pos 0)) → ⊥))

@@ -2,7 +2,7 @@
 use mathlib.Core.Path.{_≡_}
 use Prim.Native.Nat.{ℕ, _≤_, _<_, _-_}
 use borrow.Author.Count.{below-more}
-use Rattle.segment.proofs.Decides.{holds, fails}
+use Rattle.segment.proofs.Answers.{holds, fails}
 use Rattle.verdict.specs.Steps.{Below, pointAt}
 use Rattle.verdict.proofs.Search.{found, none}
 use borrow.Author.Needs.{needs}
