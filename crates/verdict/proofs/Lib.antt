@@ -9,3 +9,4 @@ pub mod Nodes
 pub mod Listing
 pub mod Parent
 pub mod Turning
+pub mod Places

@@ -9,6 +9,7 @@ use lib.ListN.{length, getD, take}
 use lib.Seq.{getD-take}
 use Rattle.table.specs.Lists.{member, repeats}
 use Rattle.table.specs.Table.{Side, records, linkOf, chain}
+use Rattle.table.specs.Refusal.{fault}
 use Rattle.table.proofs.Lists.{Distinct, or-false, T-false}
 use Rattle.table.proofs.Scan.{member-at, place}
 use Rattle.table.proofs.Accepted.{records-bounds, chain-distinct, chain-length, chain-within, links-chained}
@@ -22,6 +23,9 @@ places-differ [] i j d l m e = omega arith
 places-differ (k ∷ ks) i zero d l m e = omega arith
 places-differ (k ∷ ks) zero (suc j) d l m e = T-false (member k ks) .1 (or-false (member k ks) (repeats ks) .0 d .0) (subst (λ n. T (member n ks)) (sym e) (member-at ks j (omega arith)))
 places-differ (k ∷ ks) (suc i) (suc j) d l m e = places-differ ks i j (or-false (member k ks) (repeats ks) .0 d .1) (omega arith) (omega arith) e
+
+pub nodes-of : {t list : List ℕ} {n : ℕ} → fault t ≡ 0 → length list ≡ 4097 → n ≡ length (chain t) → take n list ≡ chain t → Nodes t n list
+nodes-of {t} ok e n l = record { accepted = ok; nodes = n; long = omega (arith, chain-length t ok, records-bounds t ok); listed = l }
 
 module _ {t list : List ℕ} {n : ℕ} (l : Nodes t n list) where
   same-place : (i : ℕ) → i < n → getD (chain t) i 0 ≡ getD list i 0
