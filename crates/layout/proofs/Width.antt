@@ -1,5 +1,5 @@
 -- The width of a drawing, counted along its spine: W + 3 if the spine turns, otherwise the greatest reach of its nodes.
-use mathlib.Core.Path.{_≡_, refl, ap, ap₂, sym, subst, subst₂, _∙_}
+use mathlib.Core.Path.{_≡_, refl, ap, sym, subst, subst₂, _∙_}
 use mathlib.Core.Bool.{Bool, true, false, not, cond}
 use mathlib.Core.List.{List, [], _∷_, map}
 use Prim.Native.Nat.{ℕ, suc, _+_, _≤_, max}
@@ -12,7 +12,7 @@ use Rattle.layout.specs.Layout.{Layout, blank, placed, width, height, sh
 use Rattle.layout.specs.Spine.{SpineNode, hangs, spine, Role, knee, ordinary, switch, opposite, seen, runRole, roleAfter, handAfter, Assigned, assigned, rolesAfter, roles}
 use Rattle.layout.specs.Drawing.{Part, part, hang, widest, join, place, steps, draw}
 use Rattle.layout.specs.Held.{facing, widthOn, spineOn, rolesOn, widestOn}
-use Rattle.layout.specs.Width.{edge, turn, reaches, turns, partsOn}
+use Rattle.layout.specs.Width.{turn, reaches, turns, partsOn}
 use Rattle.layout.proofs.Motions.{width-shift, width-flip}
 use Rattle.layout.proofs.Rows.{mirror-twice, size-mirror}
 use Rattle.layout.proofs.Whole.{drawn, draw-law}

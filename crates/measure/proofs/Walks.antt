@@ -1,24 +1,23 @@
 -- The walk along a spine that measures it: what holds at each node, how one node is passed, and what the end gives. Rests on Choices, Frames and the
 -- width law.
 use mathlib.Core.Bool.{Bool, true, false, cond, _||_}
-use mathlib.Core.Path.{_≡_, refl, sym, ap, ap₂, subst, _∙_}
-use mathlib.Core.Logic.{_⊎_, inl, inr, ⊎-elim}
+use mathlib.Core.Path.{_≡_, refl, sym, ap, subst, _∙_}
+use mathlib.Core.Logic.{inl, inr}
 use mathlib.Core.List.{List, [], _∷_, map}
 use Prim.Native.Nat.{ℕ, _+_, _≤_, _<_, max}
 use native.Mathlib.Omega.{arith}
 use lib.Dec.{T}
-use lib.ListN.{getD, length, set, length-set}
+use lib.ListN.{getD, length, set}
 use lib.Seq.{getD-set-same, getD-set-other}
 use Rattle.table.specs.Lists.{member, count}
-use Rattle.table.specs.Table.{Side, left, right, leftOf, rightOf, chain}
+use Rattle.table.specs.Table.{Side, left, right, chain}
 use Rattle.table.specs.Tree.{Tree, none, node, size, nodes, treeAt}
 use Rattle.table.specs.Refusal.{fault}
 use Rattle.table.proofs.Lists.{same, same-one, length-within}
 use Rattle.table.proofs.Chain.{length-nodes}
 use Rattle.table.proofs.Accepted.{records-bounds, chain-length, size-below, tree-unfolds, tree-none}
-use Rattle.layout.specs.Layout.{width, mirror}
 use Rattle.layout.specs.Spine.{SpineNode, hangs, Role, knee, ordinary, switch, opposite, seen, roleAfter, handAfter, assigned, Assigned, rolesAfter}
-use Rattle.layout.specs.Drawing.{Part, part, hang, widest, draw}
+use Rattle.layout.specs.Drawing.{Part, hang, widest, draw}
 use Rattle.layout.specs.Held.{facing, widthOn, spineOn, roleNext, rolesOn, widestOn}
 use Rattle.layout.specs.Width.{edge, turn, reaches, turns, partsOn}
 use Rattle.layout.proofs.Width.{width-law, widest-less, width-small}
@@ -31,7 +30,7 @@ use Rattle.measure.specs.Roles.{handOf, roleOf, withRoles}
 use Rattle.measure.specs.Measured.{Kept, Measured, Longer}
 use Rattle.measure.proofs.Forks.{named-within}
 use Rattle.measure.proofs.Choices.{code-same, code-small}
-use Rattle.measure.proofs.Frames.{countOn, countHung, count-spine, hung-below, nodes-named, once, Agree, prepared-frame, along-frame, Coded, coded-frame, with-kept, with-coded, AlongAfter, along-node}
+use Rattle.measure.proofs.Frames.{countOn, countHung, count-spine, hung-below, nodes-named, once, prepared-frame, along-frame, Coded, coded-frame, with-kept, with-coded, AlongAfter, along-node}
 
 -- The parts that follow a node of role o on the hand a.
 abbrev pub parts : Side → Role → List SpineNode → List Part

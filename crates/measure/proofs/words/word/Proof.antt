@@ -2,9 +2,6 @@ use borrow.Author.Needs.{needs}
 use Rattle.table.specs.Table.{word as wordOf}
 use Rattle.measure.proofs.words.word.Statement.{statement}
 use Rattle.measure.proofs.words.word.Tie as tie
-use Rattle.measure.proofs.words.word.Reads as reads
-use Rattle.measure.proofs.words.word.Lts as lts
-use Rattle.measure.proofs.words.wide.Reads as wide-reads
 
 -- src/words.rt:18:14
 mul-at : tie.Need-mul-at
