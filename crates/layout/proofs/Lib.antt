@@ -1,12 +1,18 @@
--- The laws of the drawing.
+-- The laws of the drawing. What is promised: Clean, Theorem, Records. The geometry: Points to Along. The rows: Rows, Heights. From a spine to the tree: Spines, Whole.
+-- The form that the drawer's code follows: Sides, Held, Width.
 pub mod Clean
 pub mod Points
+pub mod Meet
 pub mod Motions
+pub mod CleanMotions
 pub mod Rows
 pub mod Steps
 pub mod Along
-pub mod Filled
+pub mod Heights
+pub mod Spines
 pub mod Whole
 pub mod Theorem
 pub mod Records
+pub mod Sides
+pub mod Held
 pub mod Width
