@@ -7,7 +7,6 @@ use native.Mathlib.Omega.{arith}
 use lib.ListN.{length-set}
 use borrow.Fn.Kinds.{In}
 use borrow.Fn.PlainCycle.{Measures, is, falls, and}
-use Rattle.table.specs.Table.{left, right}
 use Rattle.table.specs.Tree.{size, treeAt}
 use Rattle.measure.specs.Forked.{sideOf}
 use Rattle.measure.proofs.Forks.{named-within}
