@@ -1,0 +1,26 @@
+use Prim.Native.Nat.{ℕ}
+use lib.ListN.{List·getD-eq-default}
+use borrow.Author.Needs.{needs}
+use Rattle.table.proofs.links.marked.Statement.{statement}
+use Rattle.table.proofs.links.marked.Tie as tie
+use Rattle.table.proofs.links.marked.Reads as reads
+use Rattle.table.proofs.links.marked.Lts as lts
+
+-- src/links.rt:16:9
+returns : tie.Need-returns
+returns c = rw (List·getD-eq-default {A = ℕ} _ 0 (c .if1 .taken))
+
+-- src/links.rt:18:5
+mul-result : tie.Need-mul-result
+mul-result c = search needs
+
+-- src/links.rt:18:5
+shared-slice-read-result : tie.Need-shared-slice-read-result
+shared-slice-read-result c = search needs
+
+-- src/links.rt:12:1
+returns-2 : tie.Need-returns-2
+returns-2 c = search needs
+
+pub marked-spec : {M : Type 1} → statement M
+marked-spec = tie.close (tie.spec returns mul-result shared-slice-read-result returns-2)
