@@ -1,5 +1,5 @@
 -- The laws of the drawing. What is promised: Clean, Theorem, Records. The geometry: Points to Along. The rows: Rows, Heights. From a spine to the tree: Spines, Whole.
--- The form that the drawer's code follows: Sides, Held.
+-- The form that the drawer's code follows: Sides, Held, Width.
 pub mod Clean
 pub mod Points
 pub mod Meet
@@ -15,3 +15,4 @@ pub mod Theorem
 pub mod Records
 pub mod Sides
 pub mod Held
+pub mod Width
