@@ -13,3 +13,4 @@ pub mod Theorem
 pub mod Records
 pub mod Sides
 pub mod Held
+pub mod Apart
