@@ -59,7 +59,7 @@ light-spine n (node k a b) h = go (leb (size b) (size a)) (leb→le (size b) (si
 pub size-seen : (s : Side) (l : SpineNode) → size (hungTree (seen s l)) ≡ size (hungTree l)
 unfolding seen
 size-seen left l = refl
-size-seen right (hangs k s t) = size-mirror t
+size-seen right (hangs k s t) = omega (arith, size-mirror t)
 
 pub size-over : (l : SpineNode) (t : Tree) → size (over l t) ≡ suc (size (hungTree l) + size t)
 unfolding over size
@@ -135,9 +135,14 @@ proper-one W d knee l g w c = proper-run W d l g w c
 proper-one W d ordinary l g w c = proper-run W d l g w c
 proper-one W d switch (hangs k s t) g w c = a-knee g w c
 
-widest-one : (d : Tree → Layout) (o : Role) (l : SpineNode) (ps : List Part) → widest (hang d (assigned o l) ∷ ps) ≡ max (width (d (hungTree l))) (widest ps)
+-- W is not below the width of a hung drawing.
+widest-one : (d : Tree → Layout) (o : Role) (l : SpineNode) (ps : List Part) → (width (d (hungTree l)) ≤ widest (hang d (assigned o l) ∷ ps)) × (widest ps ≤ widest (hang d (assigned o l) ∷ ps))
 unfolding hang widest
-widest-one d o (hangs k s t) ps = refl
+widest-one d o (hangs k s t) ps = (omega arith, omega arith)
+
+widest-less : (B : ℕ) (d : Tree → Layout) (o : Role) (l : SpineNode) (ps : List Part) → width (d (hungTree l)) ≤ B → widest ps ≤ B → widest (hang d (assigned o l) ∷ ps) ≤ B
+unfolding hang widest
+widest-less B d o (hangs k s t) ps h i = omega arith
 
 -- ---- the tree
 
@@ -195,7 +200,7 @@ module _ (n W : ℕ) (d : Tree → Layout) (hd : (S : Tree) → 2 * size S + 1 �
   widest-at-most B h s o (light-node {l} {ls} f g i) =
       let s′ = handAfter o s in
       let o′ = roleAfter o (seen s′ l) in
-      omega (arith, widest-one d o′ (seen s′ l) (parts d s′ o′ ls), h (hungTree (seen s′ l)) (omega (arith, size-seen s′ l)), widest-at-most B h s′ o′ i)
+      widest-less B d o′ (seen s′ l) (parts d s′ o′ ls) (h (hungTree (seen s′ l)) (omega (arith, size-seen s′ l))) (widest-at-most B h s′ o′ i)
 
   shaped-one : (o : Role) (l : SpineNode) (ps : List Part) (N : Tree) → Drawn (hungTree l) (d (hungTree l)) → ((H r p : ℕ) → shape (place W H r p ps .drawn) ≡ N) →
       (H r p : ℕ) → shape (place W H r p (hang d (assigned o l) ∷ ps) .drawn) ≡ over l (facing (handAfter o left) N)
