@@ -11,13 +11,15 @@ use Rattle.table.specs.Tree.{Tree, size}
 use Rattle.layout.specs.Layout.{Layout, blank, placed, width, height, shift, flip}
 use Rattle.layout.specs.Spine.{SpineNode, hangs, spine, Role, knee, ordinary, switch, opposite, seen, roleAfter, handAfter, assigned, rolesAfter}
 use Rattle.layout.specs.Drawing.{Part, part, hang, widest, join, place, draw}
+use Rattle.layout.specs.Held.{facing, inwards, put, hungOn, spineOn, Fit}
 use Rattle.layout.proofs.Clean.{onSide, Rooted, rooted, Node, root, below, top, point}
-use Rattle.layout.proofs.Points.{rooted-high}
+use Rattle.layout.proofs.Points.{PointOf, pointOn, point-below, rooted-high, Within}
+use Rattle.layout.proofs.Motions.{shift-within}
 use Rattle.layout.proofs.Along.{Stretch, turn, run, Proper, ended, a-knee, an-ordinary, a-switch, Reached, along}
 use Rattle.layout.proofs.Heights.{Kept}
 use Rattle.layout.proofs.Spines.{light-spine, parts, proper}
 use Rattle.layout.proofs.Whole.{drawn, whole, draw-parts}
-use Rattle.layout.proofs.Sides.{sideOn}
+use Rattle.layout.proofs.Sides.{sideOn, spine-on, same-node}
 
 -- ---- the law
 
@@ -100,7 +102,7 @@ no-row o = omega (arith, narrow (o .high))
 
 -- ---- a node with D and N
 
-each-hung : (C : ℕ → Layout → Type 0) (k : ℕ) (P : Point) (s : Side) (D N : Layout) (ss : List Side) → C 0 D → ((i : ℕ) → C (suc i) (hungAt ss i N)) →
+pub each-hung : (C : ℕ → Layout → Type 0) (k : ℕ) (P : Point) (s : Side) (D N : Layout) (ss : List Side) → C 0 D → ((i : ℕ) → C (suc i) (hungAt ss i N)) →
     (i : ℕ) → C i (hungAt (s ∷ ss) i (join k P s D N))
 unfolding hungAt branch join opposite
 each-hung C k P left D N ss d n zero = d
@@ -139,97 +141,124 @@ spread-join {A} {A′} {R} {R′} k P s {D} {N} {ss} d o a p f g n = record {
 
 -- ---- the motions
 
--- A drawing at its place is in its rectangle.
-record Lies (e w t h x y : ℕ) : Type 0 where
-  from-column : e ≤ x
-  to-column : x < e + w
-  from-row : t ≤ y
-  to-row : y < t + h
+node-point : {L : Layout} (n : Node L) → PointOf 1 (point n .column) (point n .row) L
+node-point root = pointOn root (record { u = 1; v = 0; sum = refl; in-column = omega arith; in-row = omega arith })
+node-point (below s n) = point-below s (node-point n)
 
-lies : (e t w h : ℕ) (L : Layout) → width L ≤ w → height L ≤ h → (n : Node (shift e t L)) → Lies e w t h (point n .column) (point n .row)
-unfolding shift width height
-lies e t w h (placed k P a b) i j root = record { from-column = omega arith; to-column = omega arith; from-row = omega arith; to-row = omega arith }
-lies e t w h (placed k P a b) i j (below left n) = lies e t w h a (omega arith) (omega arith) n
-lies e t w h (placed k P a b) i j (below right n) = lies e t w h b (omega arith) (omega arith) n
-
+-- The rows and the rectangle of a drawing at its place.
 rows-shift : (e t : ℕ) {x : ℕ} (D : Layout) → OccupiesRow x (shift e t D) → (t ≤ x) × (x < t + height D)
 rows-shift e t D o =
-    let i = lies e t (width D) (height D) D (omega arith) (omega arith) in
-    (omega (arith, i (o .high) .from-row), omega (arith, i (o .low) .to-row))
+    let h = shift-within e t D (node-point (o .high)) in
+    let l = shift-within e t D (node-point (o .low)) in
+    (omega arith, omega arith)
 
-in-shift : (e t : ℕ) {Q : Point} (D : Layout) → InRectangle Q (shift e t D) → Lies e (width D) t (height D) (Q .column) (Q .row)
+in-shift : (e t : ℕ) {Q : Point} (D : Layout) → InRectangle Q (shift e t D) → Within e (width D) t (height D) 1 (Q .column) (Q .row)
 in-shift e t D z =
-    let i = lies e t (width D) (height D) D (omega arith) (omega arith) in
+    let l = shift-within e t D (node-point (z .leftmost)) in
+    let m = shift-within e t D (node-point (z .rightmost)) in
     let r = rows-shift e t D (z .rows) in
-    record { from-column = omega (arith, i (z .leftmost) .from-column); to-column = omega (arith, i (z .rightmost) .to-column); from-row = r .0; to-row = r .1 }
+    record { from-column = omega arith; to-column = omega arith; from-row = omega arith; to-row = omega arith }
 
-module _ (e : ℕ) where
-  abbrev over : Point → Point
-  over Q = at (e - Q .column) (Q .row)
+-- A layout held by its edge e on a side, with its top at row t.
+module _ (e t : ℕ) where
+  abbrev moved : Side → Point → Point
+  moved s Q = at (inwards s e (Q .column)) (t + Q .row)
 
-  branch-flip : (s : Side) (L : Layout) → branch (opposite s) (flip e L) ≡ flip e (branch s L)
-  unfolding branch flip opposite
-  branch-flip s blank = refl
-  branch-flip left (placed k P a b) = refl
-  branch-flip right (placed k P a b) = refl
+  branch-put : (s x : Side) (L : Layout) → branch (sideOn s x) (put s e t L) ≡ put s e t (branch x L)
+  unfolding branch put sideOn opposite
+  branch-put s x blank = refl
+  branch-put left left (placed k P a b) = refl
+  branch-put left right (placed k P a b) = refl
+  branch-put right left (placed k P a b) = refl
+  branch-put right right (placed k P a b) = refl
 
-  spine-flip : (ss : List Side) (i : ℕ) (L : Layout) → spineAt (map opposite ss) i (flip e L) ≡ flip e (spineAt ss i L)
-  unfolding spineAt flip
-  spine-flip ss zero L = refl
-  spine-flip [] (suc i) L = refl
-  spine-flip (s ∷ ss) (suc i) L = ap (spineAt (map opposite ss) i) (branch-flip (opposite s) L) ∙ spine-flip ss i (branch (opposite s) L)
+  rest-put : (s x : Side) (L : Layout) → branch (opposite (sideOn s x)) (put s e t L) ≡ put s e t (branch (opposite x) L)
+  unfolding sideOn
+  rest-put left x L = branch-put left (opposite x) L
+  rest-put right x L = branch-put right (opposite x) L
 
-  hung-flip : (ss : List Side) (i : ℕ) (L : Layout) → hungAt (map opposite ss) i (flip e L) ≡ flip e (hungAt ss i L)
-  unfolding hungAt flip
-  hung-flip [] i L = refl
-  hung-flip (s ∷ ss) zero L = branch-flip s L
-  hung-flip (s ∷ ss) (suc i) L = ap (hungAt (map opposite ss) i) (branch-flip (opposite s) L) ∙ hung-flip ss i (branch (opposite s) L)
+  spine-put : (s : Side) (ss : List Side) (i : ℕ) (L : Layout) → spineAt (map (sideOn s) ss) i (put s e t L) ≡ put s e t (spineAt ss i L)
+  unfolding spineAt put
+  spine-put s ss zero L = refl
+  spine-put s [] (suc i) L = refl
+  spine-put s (x ∷ ss) (suc i) L = ap (spineAt (map (sideOn s) ss) i) (rest-put s x L) ∙ spine-put s ss i (branch (opposite x) L)
 
-  node-flipped : (L : Layout) (n : Node (flip e L)) → (m : Node L) × (point n ≡ over (point m))
-  unfolding flip
-  node-flipped (placed k P a b) root = (root, refl)
-  node-flipped (placed k P a b) (below left n) = let z = node-flipped b n in (below right (z .0), z .1)
-  node-flipped (placed k P a b) (below right n) = let z = node-flipped a n in (below left (z .0), z .1)
+  hung-put : (s : Side) (ss : List Side) (i : ℕ) (L : Layout) → hungAt (map (sideOn s) ss) i (put s e t L) ≡ put s e t (hungAt ss i L)
+  unfolding hungAt put
+  hung-put s [] i L = refl
+  hung-put s (x ∷ ss) zero L = branch-put s x L
+  hung-put s (x ∷ ss) (suc i) L = ap (hungAt (map (sideOn s) ss) i) (rest-put s x L) ∙ hung-put s ss i (branch (opposite x) L)
 
-  nodes-flip : (C : Point → Type 0) (ss : List Side) (L : Layout) → ((i : ℕ) (h : Rooted (spineAt ss i L)) → C (over (point (top h)))) →
-      (i : ℕ) (h : Rooted (spineAt (map opposite ss) i (flip e L))) → C (point (top h))
-  unfolding flip
-  nodes-flip C ss L n i = subst (λ (M : Layout). (h : Rooted M) → C (point (top h))) (sym (spine-flip ss i L)) (go (spineAt ss i L) (n i))
-    where
-      go : (M : Layout) → ((h : Rooted M) → C (over (point (top h)))) → (h : Rooted (flip e M)) → C (point (top h))
-      go (placed k P a b) n rooted = n rooted
+  -- Where a node was.
+  record Was (s : Side) (L : Layout) (n : Node (put s e t L)) : Type 0 where
+    node : Node L
+    column : point n .column ≡ inwards s e (point node .column)
+    row : point n .row ≡ t + point node .row
 
-  row-flipped : {x : ℕ} (L : Layout) → OccupiesRow x (flip e L) → OccupiesRow x L
-  row-flipped L o =
-      let m = node-flipped L (o .high) in
-      let n = node-flipped L (o .low) in
-      record { high = m .0; low = n .0; from = omega (arith, ap (λ (Q : Point). Q .row) (m .1)); to = omega (arith, ap (λ (Q : Point). Q .row) (n .1)) }
+  was : (s : Side) (L : Layout) (n : Node (put s e t L)) → Was s L n
+  unfolding put inwards
+  was left (placed k P a b) root = record { node = root; column = refl; row = refl }
+  was right (placed k P a b) root = record { node = root; column = refl; row = refl }
+  was left (placed k P a b) (below left n) = let z = was left a n in record { node = below left (z .node); column = z .column; row = z .row }
+  was left (placed k P a b) (below right n) = let z = was left b n in record { node = below right (z .node); column = z .column; row = z .row }
+  was right (placed k P a b) (below left n) = let z = was right b n in record { node = below right (z .node); column = z .column; row = z .row }
+  was right (placed k P a b) (below right n) = let z = was right a n in record { node = below left (z .node); column = z .column; row = z .row }
 
-  in-flipped : {Q : Point} (L : Layout) → Q .column ≤ e → width L ≤ suc e → InRectangle (over Q) (flip e L) → InRectangle Q L
-  in-flipped L h w z =
-      let m = node-flipped L (z .leftmost) in
-      let n = node-flipped L (z .rightmost) in
+  row-was : (s : Side) {x : ℕ} (L : Layout) → OccupiesRow x (put s e t L) → OccupiesRow (x - t) L
+  row-was s L o =
+      let m = was s L (o .high) in
+      let n = was s L (o .low) in
+      record { high = m .node; low = n .node; from = omega arith; to = omega arith }
+
+  -- In the rectangle of a part M of L.
+  in-was : (s : Side) {Q : Point} (L M : Layout) → Fit s e L → Q .column < width L → width M ≤ width L → InRectangle (moved s Q) (put s e t M) → InRectangle Q M
+  unfolding inwards
+  in-was left L M fit h w z =
+      let o = row-was left M (z .rows) in
+      let m = was left M (z .leftmost) in
+      let n = was left M (z .rightmost) in
+      record { rows = record { high = o .high; low = o .low; from = omega arith; to = omega arith }; leftmost = m .node; rightmost = n .node; from = omega arith; to = omega arith }
+  in-was right L M fit h w z =
+      let o = row-was right M (z .rows) in
+      let m = was right M (z .rightmost) in
+      let n = was right M (z .leftmost) in
       record {
-        rows = row-flipped L (z .rows);
-        leftmost = n .0;
-        rightmost = m .0;
-        from = omega (arith, ap (λ (Q : Point). Q .column) (n .1), narrow (n .0));
-        to = omega (arith, ap (λ (Q : Point). Q .column) (m .1), narrow (m .0));
+        rows = record { high = o .high; low = o .low; from = omega arith; to = omega arith };
+        leftmost = m .node;
+        rightmost = n .node;
+        from = omega (arith, narrow (m .node));
+        to = omega (arith, narrow (n .node));
       }
 
-  spread-flip : {A A′ : Point → Type 0} {R : ℕ → Type 0} {ss : List Side} {L : Layout} → width L ≤ suc e → ((Q : Point) → A Q → A′ (over Q)) → Spread A R ss L → Spread A′ R (map opposite ss) (flip e L)
-  spread-flip {A} {A′} {R} {ss} {L} w f n = record {
+  tops-put : (s : Side) (C : Point → Type 0) (M : Layout) → ((h : Rooted M) → C (moved s (point (top h)))) → (h : Rooted (put s e t M)) → C (point (top h))
+  unfolding put inwards
+  tops-put left C (placed k P a b) n rooted = n rooted
+  tops-put right C (placed k P a b) n rooted = n rooted
+
+  nodes-put : (s : Side) (C : Point → Type 0) (ss : List Side) (L : Layout) → ((i : ℕ) (h : Rooted (spineAt ss i L)) → C (moved s (point (top h)))) →
+      (i : ℕ) (h : Rooted (spineAt (map (sideOn s) ss) i (put s e t L))) → C (point (top h))
+  nodes-put s C ss L n i = subst (λ (M : Layout). (h : Rooted M) → C (point (top h))) (sym (spine-put s ss i L)) (tops-put s C (spineAt ss i L) (n i))
+
+  spread-put : (s : Side) {A A′ : Point → Type 0} {R R′ : ℕ → Type 0} {ss : List Side} {L : Layout} → Fit s e L → ((Q : Point) → A Q → A′ (moved s Q)) → ((x : ℕ) → R (x - t) → R′ x) →
+      Spread A R ss L → Spread A′ R′ (map (sideOn s) ss) (put s e t L)
+  spread-put s {A} {A′} {R} {R′} {ss} {L} fit f g n = record {
     apart = record {
-      rows-apart = λ x i j y z. n .apart .rows-apart x i j (back x i y) (back x j z);
-      spine-outside = λ i j. nodes-flip (λ Q. InRectangle Q (hungAt (map opposite ss) j (flip e L)) → ⊥) ss L
-          (λ i h z. n .apart .spine-outside i j h (in-flipped (hungAt ss j L) (omega (arith, narrow-spine ss i L, narrow (top h))) (omega (arith, narrow-hung ss j L)) (subst (InRectangle _) (hung-flip ss j L) z))) i;
+      rows-apart = λ x i j y z. n .apart .rows-apart (x - t) i j (back x i y) (back x j z);
+      spine-outside = λ i j. nodes-put s (λ Q. InRectangle Q (hungAt (map (sideOn s) ss) j (put s e t L)) → ⊥) ss L (λ i h z. n .apart .spine-outside i j h
+          (in-was s L (hungAt ss j L) fit (omega (arith, narrow-spine ss i L, narrow (top h))) (narrow-hung ss j L) (subst (InRectangle _) (hung-put s ss j L) z))) i;
     };
-    node = nodes-flip A′ ss L (λ i h. f _ (n .node i h));
-    hung = λ i x y. n .hung i x (back x i y);
+    node = nodes-put s A′ ss L (λ i h. f _ (n .node i h));
+    hung = λ i x y. g x (n .hung i (x - t) (back x i y));
   }
     where
-      back : (x i : ℕ) → OccupiesRow x (hungAt (map opposite ss) i (flip e L)) → OccupiesRow x (hungAt ss i L)
-      back x i y = row-flipped (hungAt ss i L) (subst (OccupiesRow x) (hung-flip ss i L) y)
+      back : (x i : ℕ) → OccupiesRow x (hungAt (map (sideOn s) ss) i (put s e t L)) → OccupiesRow (x - t) (hungAt ss i L)
+      back x i y = row-was s (hungAt ss i L) (subst (OccupiesRow x) (hung-put s ss i L) y)
+
+-- A flipped layout is held by its right edge.
+flip-put : (e : ℕ) (L : Layout) → put right e 0 L ≡ flip e L
+unfolding put flip
+flip-put e blank = refl
+flip-put e (placed k P a b) = same-node refl (omega arith) (flip-put e b) (flip-put e a)
 
 -- ---- along a spine
 
@@ -266,7 +295,7 @@ none-left turn W H r p = none
 none-left run W H r p = none
 
 spread : (W H r p : ℕ) {z : Stretch} {ps : List Part} → Proper W z ps → Reached z H r → SpreadOn z W H r p (place W H r p ps .under) (ways ps) (place W H r p ps .drawn)
-unfolding place join ways turned handAfter opposite
+unfolding place join ways turned handAfter opposite inwards sideOn
 spread W H r p (ended {z}) le = none-left z W H r p
 spread W H r p (an-ordinary {k} {s} {D} {ps} g w b c) le =
     let u = along W (r + height D) (r + max 1 (height D)) p c (omega arith, omega arith) .below in
@@ -280,6 +309,7 @@ spread W H r p (an-ordinary {k} {s} {D} {ps} g w b c) le =
     (spread W (r + height D) (r + max 1 (height D)) p c (omega arith, omega arith))
 spread W H r p (a-switch {k} {D} {ps} g w h c) le =
     let one = rooted-high h in
+    let N = place W (r + height D + p) (r + 1) 0 ps .drawn in
     spread-join k (at 1 r) left
     (λ x y. let i = rows-shift 1 (r + 1) D y in ((omega arith, λ j. omega arith), λ j. omega arith))
     (λ Q n i. let j = in-shift 1 (r + 1) D i in omega (arith, n .first (omega arith)))
@@ -287,8 +317,9 @@ spread W H r p (a-switch {k} {D} {ps} g w h c) le =
     (λ i. omega arith)
     (λ Q n. (record { from = omega arith; first = λ i. absurd (omega arith) }, λ i. omega (arith, n .first (omega arith))))
     (λ x i. (omega arith, λ j. omega arith))
-    (spread-flip (W + 2) {A′ = From (W + 2) (r + height D + p) (r + 1)} (omega (arith, along W (r + height D + p) (r + 1) 0 c (omega arith) .wide)) (λ Q n. record { from = n .from; first = λ i. omega (arith, n .first i) })
-    (spread W (r + height D + p) (r + 1) 0 c (omega arith)))
+    (subst (Spread _ _ _) (flip-put (W + 2) N) (spread-put (W + 2) 0 right {A′ = From (W + 2) (r + height D + p) (r + 1)} {R′ = λ x. r + height D + p < x} (omega (arith, along W (r + height D + p) (r + 1) 0 c (omega arith) .wide))
+    (λ Q n. record { from = omega arith; first = λ i. omega (arith, n .first (omega arith)) }) (λ x i. omega arith)
+    (spread W (r + height D + p) (r + 1) 0 c (omega arith))))
 spread W H r p (a-knee {k} {s = right} {D} {ps} g w c) le =
     let H′ = max H r in
     spread-join k (at 0 r) right
@@ -353,11 +384,26 @@ ways-parts d s o (l ∷ ls) =
 
 -- ---- every spine
 
--- Every spine of a drawing is that of a tree's own drawing, moved: a hung drawing is that of its subtree (or, on the right hand, of the mirror image), shifted and flipped, which keeps it
--- apart.
-pub apart : (t : Tree) → Apart (map sideOff (spine t)) (draw t)
+sides-on : (s : Side) (ls : List SpineNode) → map (sideOn s) (map sideOff (map (seen s) ls)) ≡ map sideOff ls
+unfolding sideOn seen opposite
+sides-on s [] = refl
+sides-on s (l ∷ ls) = ap₂ _∷_ (one s l) (sides-on s ls)
+  where
+    one : (s : Side) (l : SpineNode) → sideOn s (sideOff (seen s l)) ≡ sideOff l
+    one left l = refl
+    one right (hangs k left t) = refl
+    one right (hangs k right t) = refl
+
+spread-draw : (t : Tree) → Spread (From 0 0 0) (λ x. 0 < x) (map sideOff (spine t)) (draw t)
 unfolding handAfter opposite turned
-apart t =
+spread-draw t =
     let ps = parts draw right switch (spine t) in
     let c = proper (size t) (widest ps) draw (λ S h. drawn S) right switch (light-spine (size t) t (omega arith)) (omega arith) in
-    subst₂ Apart (ways-parts draw right switch (spine t)) (sym (draw-parts t)) (spread (widest ps) 0 0 0 c (omega arith) .apart)
+    subst₂ (Spread _ _) (ways-parts draw right switch (spine t)) (sym (draw-parts t)) (spread (widest ps) 0 0 0 c (omega arith))
+
+-- The law, for a subtree hung on a side.
+pub apart : (s : Side) (e t : ℕ) (S : Tree) → Fit s e (draw (facing s S)) → Apart (map sideOff (spineOn s S)) (hungOn s e t S)
+unfolding hungOn
+apart s e t S fit =
+    let n = spread-put e t s {A′ = λ Q. Unit {0}} {R′ = λ x. Unit {0}} fit (λ Q i. tt) (λ x i. tt) (spread-draw (facing s S)) in
+    subst (λ (ss : List Side). Apart ss (put s e t (draw (facing s S)))) (ap (λ (ls : List SpineNode). map (sideOn s) (map sideOff ls)) (spine-on s S) ∙ sides-on s (spineOn s S)) (n .apart)

@@ -14,3 +14,4 @@ pub mod Records
 pub mod Sides
 pub mod Held
 pub mod Apart
+pub mod EverySpine
