@@ -1,25 +1,20 @@
--- "No gaps, no shared rows": along the spine of every tree, hung drawings share no row, and spine nodes are outside their rectangles (`apart`). That every row
--- holds a node is the theorem's `filled`.
-use mathlib.Core.Path.{_≡_, refl, ap, ap₂, sym, subst, subst₂, _∙_}
+-- Of one spine: hung drawings share no row, and spine nodes are outside their rectangles (`Apart`). How that is kept when a spine node is put before the rest (`spread-join`), and
+-- when the whole is held by an edge (`spread-put`).
+use mathlib.Core.Path.{_≡_, refl, ap, sym, subst, _∙_}
 use mathlib.Core.List.{List, [], _∷_, map}
-use Prim.Native.Nat.{ℕ, zero, suc, _+_, _-_, _≤_, _<_, max}
+use Prim.Native.Nat.{ℕ, zero, suc, _+_, _-_, _≤_, _<_}
 use native.Mathlib.Omega.{arith}
 use Rattle.segment.specs.declared.Point.{Point}
 use Rattle.segment.specs.Segment.{at}
 use Rattle.table.specs.Table.{Side, left, right}
-use Rattle.table.specs.Tree.{Tree, size}
 use Rattle.layout.specs.Layout.{Layout, blank, placed, width, height, shift, flip}
-use Rattle.layout.specs.Spine.{SpineNode, hangs, spine, Role, knee, ordinary, switch, opposite, seen, roleAfter, handAfter, assigned, rolesAfter}
-use Rattle.layout.specs.Drawing.{Part, part, hang, widest, join, place, draw}
-use Rattle.layout.specs.Held.{facing, inwards, put, hungOn, spineOn, Fit}
+use Rattle.layout.specs.Spine.{SpineNode, hangs, opposite}
+use Rattle.layout.specs.Drawing.{join}
+use Rattle.layout.specs.Held.{inwards, put, Fit}
 use Rattle.layout.proofs.Clean.{onSide, Rooted, rooted, Node, root, below, top, point}
-use Rattle.layout.proofs.Points.{PointOf, pointOn, point-below, rooted-high, Within}
+use Rattle.layout.proofs.Points.{PointOf, pointOn, point-below, Within}
 use Rattle.layout.proofs.Motions.{shift-within}
-use Rattle.layout.proofs.Along.{Stretch, turn, run, Proper, ended, a-knee, an-ordinary, a-switch, Reached, along}
-use Rattle.layout.proofs.Heights.{Kept}
-use Rattle.layout.proofs.Spines.{light-spine, parts, proper}
-use Rattle.layout.proofs.Whole.{drawn, whole, draw-parts}
-use Rattle.layout.proofs.Sides.{sideOn, spine-on, same-node}
+use Rattle.layout.proofs.Sides.{sideOn, same-node}
 
 -- ---- the law
 
@@ -58,21 +53,21 @@ pub record InRectangle (Q : Point) (D : Layout) : Type 0 where
   pub from : point leftmost .column ≤ Q .column
   pub to : Q .column ≤ point rightmost .column
 
--- "the drawings of its hung subtrees occupy rows that no other drawing of that spine occupies, and spine boxes lie outside their rectangles"
 pub record Apart (ss : List Side) (L : Layout) : Type 0 where
+  -- "the drawings of its hung subtrees occupy rows that no other drawing of that spine occupies"
   pub rows-apart : (x i j : ℕ) → OccupiesRow x (hungAt ss i L) → OccupiesRow x (hungAt ss j L) → i ≡ j
+  -- "spine boxes lie outside their rectangles"
   pub spine-outside : (i j : ℕ) (h : Rooted (spineAt ss i L)) → InRectangle (point (top h)) (hungAt ss j L) → ⊥
 
--- ---- what is known of the nodes of a spine, and of the rows that are occupied by what hangs from it
-
-record Spread (A : Point → Type 0) (R : ℕ → Type 0) (ss : List Side) (L : Layout) : Type 0 where
-  apart : Apart ss L
-  node : (i : ℕ) (h : Rooted (spineAt ss i L)) → A (point (top h))
-  hung : (i x : ℕ) → OccupiesRow x (hungAt ss i L) → R x
+-- The form in which the argument goes: also, A holds of all spine nodes, and R of all rows that hung drawings occupy.
+pub record Spread (A : Point → Type 0) (R : ℕ → Type 0) (ss : List Side) (L : Layout) : Type 0 where
+  pub apart : Apart ss L
+  pub node : (i : ℕ) (h : Rooted (spineAt ss i L)) → A (point (top h))
+  pub hung : (i x : ℕ) → OccupiesRow x (hungAt ss i L) → R x
 
 -- ---- columns
 
-narrow : {L : Layout} (n : Node L) → point n .column < width L
+pub narrow : {L : Layout} (n : Node L) → point n .column < width L
 unfolding width
 narrow root = omega arith
 narrow (below left n) = omega (arith, narrow n)
@@ -84,7 +79,7 @@ narrow-branch s blank = omega arith
 narrow-branch left (placed k P a b) = omega arith
 narrow-branch right (placed k P a b) = omega arith
 
-narrow-spine : (ss : List Side) (i : ℕ) (L : Layout) → width (spineAt ss i L) ≤ width L
+pub narrow-spine : (ss : List Side) (i : ℕ) (L : Layout) → width (spineAt ss i L) ≤ width L
 unfolding spineAt width
 narrow-spine ss zero L = omega arith
 narrow-spine [] (suc i) L = omega arith
@@ -96,11 +91,11 @@ narrow-hung [] i L = omega arith
 narrow-hung (s ∷ ss) zero L = narrow-branch s L
 narrow-hung (s ∷ ss) (suc i) L = omega (arith, narrow-hung ss i (branch (opposite s) L), narrow-branch (opposite s) L)
 
-no-row : {x : ℕ} → OccupiesRow x blank → ⊥
+pub no-row : {x : ℕ} → OccupiesRow x blank → ⊥
 unfolding width
 no-row o = omega (arith, narrow (o .high))
 
--- ---- a node with D and N
+-- ---- a spine node at P, with the drawing D of what hangs from it and the layout N from the next spine node on
 
 pub each-hung : (C : ℕ → Layout → Type 0) (k : ℕ) (P : Point) (s : Side) (D N : Layout) (ss : List Side) → C 0 D → ((i : ℕ) → C (suc i) (hungAt ss i N)) →
     (i : ℕ) → C i (hungAt (s ∷ ss) i (join k P s D N))
@@ -118,48 +113,56 @@ each-node C k P left D N ss p n (suc i) h = n i h
 each-node C k P right D N ss p n zero rooted = p
 each-node C k P right D N ss p n (suc i) h = n i h
 
-spread-join : {A A′ : Point → Type 0} {R R′ : ℕ → Type 0} (k : ℕ) (P : Point) (s : Side) {D N : Layout} {ss : List Side} →
-    ((x : ℕ) → OccupiesRow x D → R′ x × (R x → ⊥)) → ((Q : Point) → A Q → InRectangle Q D → ⊥) → A′ P → (R′ (P .row) → ⊥) → ((Q : Point) → A Q → A′ Q) → ((x : ℕ) → R x → R′ x) →
-    Spread A R ss N → Spread A′ R′ (s ∷ ss) (join k P s D N)
-spread-join {A} {A′} {R} {R′} k P s {D} {N} {ss} d o a p f g n = record {
+-- From A and R of N to A′ and R′ of the whole.
+pub record Leads (A A′ : Point → Type 0) (R R′ : ℕ → Type 0) (P : Point) (D : Layout) : Type 0 where
+  -- D is in rows of its own, the spine nodes after P are outside its rectangle, and P is in no row of a hung drawing.
+  pub alone : (x : ℕ) → OccupiesRow x D → R x → ⊥
+  pub outside : (Q : Point) → A Q → InRectangle Q D → ⊥
+  pub over : R′ (P .row) → ⊥
+  pub node : A′ P
+  pub nodes : (Q : Point) → A Q → A′ Q
+  pub row : (x : ℕ) → OccupiesRow x D → R′ x
+  pub rows : (x : ℕ) → R x → R′ x
+
+pub spread-join : {A A′ : Point → Type 0} {R R′ : ℕ → Type 0} (k : ℕ) {P : Point} (s : Side) {D N : Layout} {ss : List Side} →
+    Leads A A′ R R′ P D → Spread A R ss N → Spread A′ R′ (s ∷ ss) (join k P s D N)
+spread-join {A} {A′} {R} {R′} k {P} s {D} {N} {ss} g n = record {
   apart = record {
     rows-apart = λ x. each-hung (λ i M. (j : ℕ) → OccupiesRow x M → OccupiesRow x (hungAt (s ∷ ss) j (join k P s D N)) → i ≡ j) k P s D N ss
-        (each-hung (λ j M. OccupiesRow x D → OccupiesRow x M → 0 ≡ j) k P s D N ss (λ y z. refl) (λ j y z. absurd (d x y .1 (n .hung j x z))))
-        (λ i. each-hung (λ j M. OccupiesRow x (hungAt ss i N) → OccupiesRow x M → suc i ≡ j) k P s D N ss (λ y z. absurd (d x z .1 (n .hung i x y))) (λ j y z. ap suc (n .apart .rows-apart x i j y z)));
-    spine-outside = λ i j h z. outside j i h z;
+        (each-hung (λ j M. OccupiesRow x D → OccupiesRow x M → 0 ≡ j) k P s D N ss (λ y z. refl) (λ j y z. absurd (g .alone x y (n .hung j x z))))
+        (λ i. each-hung (λ j M. OccupiesRow x (hungAt ss i N) → OccupiesRow x M → suc i ≡ j) k P s D N ss (λ y z. absurd (g .alone x z (n .hung i x y))) (λ j y z. ap suc (n .apart .rows-apart x i j y z)));
+    spine-outside = λ i j. each-node (λ Q. InRectangle Q (hungAt (s ∷ ss) j (join k P s D N)) → ⊥) k P s D N ss (λ y. g .over (rows j (P .row) (y .rows)))
+        (λ i h. each-hung (λ j M. InRectangle (point (top h)) M → ⊥) k P s D N ss (g .outside _ (n .node i h)) (λ j y. n .apart .spine-outside i j h y) j) i;
   };
-  node = each-node A′ k P s D N ss a (λ i h. f _ (n .node i h));
-  hung = hung′;
+  node = each-node A′ k P s D N ss (g .node) (λ i h. g .nodes _ (n .node i h));
+  hung = rows;
 }
   where
-    hung′ : (i x : ℕ) → OccupiesRow x (hungAt (s ∷ ss) i (join k P s D N)) → R′ x
-    hung′ = each-hung (λ i M. (x : ℕ) → OccupiesRow x M → R′ x) k P s D N ss (λ x y. d x y .0) (λ i x y. g x (n .hung i x y))
+    rows : (i x : ℕ) → OccupiesRow x (hungAt (s ∷ ss) i (join k P s D N)) → R′ x
+    rows = each-hung (λ i M. (x : ℕ) → OccupiesRow x M → R′ x) k P s D N ss (g .row) (λ i x y. g .rows x (n .hung i x y))
 
-    outside : (j i : ℕ) (h : Rooted (spineAt (s ∷ ss) i (join k P s D N))) → InRectangle (point (top h)) (hungAt (s ∷ ss) j (join k P s D N)) → ⊥
-    outside j i h z = each-node (λ Q. InRectangle Q (hungAt (s ∷ ss) j (join k P s D N)) → ⊥) k P s D N ss (λ y. p (hung′ j (P .row) (y .rows)))
-        (λ i h. each-hung (λ j M. InRectangle (point (top h)) M → ⊥) k P s D N ss (λ y. o _ (n .node i h) y) (λ j y. n .apart .spine-outside i j h y) j) i h z
-
--- ---- the motions
+-- ---- drawings at their places
 
 node-point : {L : Layout} (n : Node L) → PointOf 1 (point n .column) (point n .row) L
 node-point root = pointOn root (record { u = 1; v = 0; sum = refl; in-column = omega arith; in-row = omega arith })
 node-point (below s n) = point-below s (node-point n)
 
 -- The rows and the rectangle of a drawing at its place.
-rows-shift : (e t : ℕ) {x : ℕ} (D : Layout) → OccupiesRow x (shift e t D) → (t ≤ x) × (x < t + height D)
+pub rows-shift : (e t : ℕ) {x : ℕ} (D : Layout) → OccupiesRow x (shift e t D) → (t ≤ x) × (x < t + height D)
 rows-shift e t D o =
     let h = shift-within e t D (node-point (o .high)) in
     let l = shift-within e t D (node-point (o .low)) in
     (omega arith, omega arith)
 
-in-shift : (e t : ℕ) {Q : Point} (D : Layout) → InRectangle Q (shift e t D) → Within e (width D) t (height D) 1 (Q .column) (Q .row)
+pub in-shift : (e t : ℕ) {Q : Point} (D : Layout) → InRectangle Q (shift e t D) → Within e (width D) t (height D) 1 (Q .column) (Q .row)
 in-shift e t D z =
     let l = shift-within e t D (node-point (z .leftmost)) in
     let m = shift-within e t D (node-point (z .rightmost)) in
     let r = rows-shift e t D (z .rows) in
     record { from-column = omega arith; to-column = omega arith; from-row = omega arith; to-row = omega arith }
 
--- A layout held by its edge e on a side, with its top at row t.
+-- ---- a layout held by its edge e on a side, with its top at row t
+
 module _ (e t : ℕ) where
   abbrev moved : Side → Point → Point
   moved s Q = at (inwards s e (Q .column)) (t + Q .row)
@@ -210,7 +213,7 @@ module _ (e t : ℕ) where
       let n = was s L (o .low) in
       record { high = m .node; low = n .node; from = omega arith; to = omega arith }
 
-  -- In the rectangle of a part M of L.
+  -- Q, a point of L, was in the rectangle of M, a part of L.
   in-was : (s : Side) {Q : Point} (L M : Layout) → Fit s e L → Q .column < width L → width M ≤ width L → InRectangle (moved s Q) (put s e t M) → InRectangle Q M
   unfolding inwards
   in-was left L M fit h w z =
@@ -239,7 +242,7 @@ module _ (e t : ℕ) where
       (i : ℕ) (h : Rooted (spineAt (map (sideOn s) ss) i (put s e t L))) → C (point (top h))
   nodes-put s C ss L n i = subst (λ (M : Layout). (h : Rooted M) → C (point (top h))) (sym (spine-put s ss i L)) (tops-put s C (spineAt ss i L) (n i))
 
-  spread-put : (s : Side) {A A′ : Point → Type 0} {R R′ : ℕ → Type 0} {ss : List Side} {L : Layout} → Fit s e L → ((Q : Point) → A Q → A′ (moved s Q)) → ((x : ℕ) → R (x - t) → R′ x) →
+  pub spread-put : (s : Side) {A A′ : Point → Type 0} {R R′ : ℕ → Type 0} {ss : List Side} {L : Layout} → Fit s e L → ((Q : Point) → A Q → A′ (moved s Q)) → ((x : ℕ) → R (x - t) → R′ x) →
       Spread A R ss L → Spread A′ R′ (map (sideOn s) ss) (put s e t L)
   spread-put s {A} {A′} {R} {R′} {ss} {L} fit f g n = record {
     apart = record {
@@ -255,155 +258,7 @@ module _ (e t : ℕ) where
       back x i y = row-was s (hungAt ss i L) (subst (OccupiesRow x) (hung-put s ss i L) y)
 
 -- A flipped layout is held by its right edge.
-flip-put : (e : ℕ) (L : Layout) → put right e 0 L ≡ flip e L
+pub flip-put : (e : ℕ) (L : Layout) → put right e 0 L ≡ flip e L
 unfolding put flip
 flip-put e blank = refl
 flip-put e (placed k P a b) = same-node refl (omega arith) (flip-put e b) (flip-put e a)
-
--- ---- along a spine
-
--- The sides of the children off the spine, as the first hand sees them.
-unfoldable turned : Side → List Side → List Side
-turned left ss = ss
-turned right ss = map opposite ss
-
-unfoldable ways : List Part → List Side
-ways [] = []
-ways (part o k s D ∷ ps) = s ∷ turned (handAfter o left) (ways ps)
-
--- A spine node from row r on: down to row H there is only the first one, in column c.
-record From (c H r : ℕ) (Q : Point) : Type 0 where
-  from : r ≤ Q .row
-  first : Q .row ≤ H → Q .column ≡ c
-
--- From a knee on all is below the lowest row used before. From another node on all is below it, and in the rows kept for what is pending nothing hangs, and spine nodes
--- are beyond its columns.
-abbrev SpreadOn : Stretch → (W H r p u : ℕ) → List Side → Layout → Type 0
-SpreadOn turn W H r p u ss N = Spread (From 0 H r) (λ x. H < x) ss N
-SpreadOn run W H r p u ss N = Spread (λ Q. From 1 r r Q × (Kept p u (Q .row) → W < Q .column)) (λ x. (r < x) × (Kept p u x → ⊥)) ss N
-
-none : {A : Point → Type 0} {R : ℕ → Type 0} → Spread A R [] blank
-unfolding hungAt width
-none = record {
-  apart = record { rows-apart = λ x i j y z. absurd (no-row y); spine-outside = λ i j h z. no-row (z .rows) };
-  node = λ i h. absurd (omega (arith, narrow-spine [] i blank, narrow (top h)));
-  hung = λ i x y. absurd (no-row y);
-}
-
-none-left : (z : Stretch) (W H r p : ℕ) → SpreadOn z W H r p (H + 1) [] blank
-none-left turn W H r p = none
-none-left run W H r p = none
-
-spread : (W H r p : ℕ) {z : Stretch} {ps : List Part} → Proper W z ps → Reached z H r → SpreadOn z W H r p (place W H r p ps .under) (ways ps) (place W H r p ps .drawn)
-unfolding place join ways turned handAfter opposite inwards sideOn
-spread W H r p (ended {z}) le = none-left z W H r p
-spread W H r p (an-ordinary {k} {s} {D} {ps} g w b c) le =
-    let u = along W (r + height D) (r + max 1 (height D)) p c (omega arith, omega arith) .below in
-    spread-join k (at 1 r) s
-    (λ x y. let i = rows-shift 2 (r + 1) D y in ((omega arith, λ j. omega arith), λ j. omega arith))
-    (λ Q n i. let j = in-shift 2 (r + 1) D i in omega (arith, n .0 .first (omega arith)))
-    (record { from = omega arith; first = λ i. refl }, λ i. absurd (omega arith))
-    (λ i. omega arith)
-    (λ Q n. (record { from = omega arith; first = λ i. absurd (omega arith) }, n .1))
-    (λ x i. (omega arith, i .1))
-    (spread W (r + height D) (r + max 1 (height D)) p c (omega arith, omega arith))
-spread W H r p (a-switch {k} {D} {ps} g w h c) le =
-    let one = rooted-high h in
-    let N = place W (r + height D + p) (r + 1) 0 ps .drawn in
-    spread-join k (at 1 r) left
-    (λ x y. let i = rows-shift 1 (r + 1) D y in ((omega arith, λ j. omega arith), λ j. omega arith))
-    (λ Q n i. let j = in-shift 1 (r + 1) D i in omega (arith, n .first (omega arith)))
-    (record { from = omega arith; first = λ i. refl }, λ i. absurd (omega arith))
-    (λ i. omega arith)
-    (λ Q n. (record { from = omega arith; first = λ i. absurd (omega arith) }, λ i. omega (arith, n .first (omega arith))))
-    (λ x i. (omega arith, λ j. omega arith))
-    (subst (Spread _ _ _) (flip-put (W + 2) N) (spread-put (W + 2) 0 right {A′ = From (W + 2) (r + height D + p) (r + 1)} {R′ = λ x. r + height D + p < x} (omega (arith, along W (r + height D + p) (r + 1) 0 c (omega arith) .wide))
-    (λ Q n. record { from = omega arith; first = λ i. omega (arith, n .first (omega arith)) }) (λ x i. omega arith)
-    (spread W (r + height D + p) (r + 1) 0 c (omega arith))))
-spread W H r p (a-knee {k} {s = right} {D} {ps} g w c) le =
-    let H′ = max H r in
-    spread-join k (at 0 r) right
-    (λ x y. let i = rows-shift 1 (H′ + 1) D y in (omega arith, λ j. omega arith))
-    (λ Q n i. let j = in-shift 1 (H′ + 1) D i in omega arith)
-    (record { from = omega arith; first = λ i. refl })
-    (λ i. omega arith)
-    (λ Q n. record { from = omega arith; first = λ i. absurd (omega arith) })
-    (λ x i. omega arith)
-    (spread W (H′ + height D) (H′ + height D + 1) 0 c (omega arith, omega arith))
-spread W H r p (a-knee {k} {s = left} {D} {ps} g w c) le =
-    let H′ = max H r in
-    let u = place W H′ (H′ + 1) (height D) ps .under in
-    let v = along W H′ (H′ + 1) (height D) c (omega arith, omega arith) .below in
-    spread-join k (at 0 r) left
-    (λ x y. let i = rows-shift 1 u D y in (omega arith, λ j. j .1 (omega arith, omega arith)))
-    (λ Q n i. let j = in-shift 1 u D i in omega (arith, n .1 (omega arith, omega arith)))
-    (record { from = omega arith; first = λ i. refl })
-    (λ i. omega arith)
-    (λ Q n. record { from = omega arith; first = λ i. absurd (omega arith) })
-    (λ x i. omega arith)
-    (spread W H′ (H′ + 1) (height D) c (omega arith, omega arith))
-
--- ---- the sides of a spine
-
-turned-none : (s : Side) → [] ≡ turned s []
-unfolding turned
-turned-none left = refl
-turned-none right = refl
-
-turned-seen : (s : Side) (l : SpineNode) (ss : List Side) → sideOff (seen s l) ∷ turned s ss ≡ turned s (sideOff l ∷ ss)
-unfolding seen turned
-turned-seen left l ss = refl
-turned-seen right (hangs k s t) ss = refl
-
-turned-twice : (ss : List Side) → map opposite (map opposite ss) ≡ ss
-unfolding opposite
-turned-twice [] = refl
-turned-twice (left ∷ ss) = ap (λ (ts : List Side). left ∷ ts) (turned-twice ss)
-turned-twice (right ∷ ss) = ap (λ (ts : List Side). right ∷ ts) (turned-twice ss)
-
-turned-after : (o : Role) (s : Side) (ss : List Side) → turned (handAfter o left) (turned (handAfter o s) ss) ≡ turned s ss
-unfolding handAfter opposite turned
-turned-after knee s ss = refl
-turned-after ordinary s ss = refl
-turned-after switch left ss = turned-twice ss
-turned-after switch right ss = refl
-
-ways-hang : (d : Tree → Layout) (o : Role) (l : SpineNode) (ps : List Part) → ways (hang d (assigned o l) ∷ ps) ≡ sideOff l ∷ turned (handAfter o left) (ways ps)
-unfolding hang ways
-ways-hang d o (hangs k s t) ps = refl
-
-ways-parts : (d : Tree → Layout) (s : Side) (o : Role) (ls : List SpineNode) → ways (parts d s o ls) ≡ turned (handAfter o s) (map sideOff ls)
-unfolding rolesAfter ways turned
-ways-parts d s o [] = turned-none (handAfter o s)
-ways-parts d s o (l ∷ ls) =
-    let s′ = handAfter o s in
-    let o′ = roleAfter o (seen s′ l) in
-    ways-hang d o′ (seen s′ l) (parts d s′ o′ ls)
-    ∙ (ap (λ (ss : List Side). sideOff (seen s′ l) ∷ ss) (ap (turned (handAfter o′ left)) (ways-parts d s′ o′ ls) ∙ turned-after o′ s′ (map sideOff ls))
-    ∙ turned-seen s′ l (map sideOff ls))
-
--- ---- every spine
-
-sides-on : (s : Side) (ls : List SpineNode) → map (sideOn s) (map sideOff (map (seen s) ls)) ≡ map sideOff ls
-unfolding sideOn seen opposite
-sides-on s [] = refl
-sides-on s (l ∷ ls) = ap₂ _∷_ (one s l) (sides-on s ls)
-  where
-    one : (s : Side) (l : SpineNode) → sideOn s (sideOff (seen s l)) ≡ sideOff l
-    one left l = refl
-    one right (hangs k left t) = refl
-    one right (hangs k right t) = refl
-
-spread-draw : (t : Tree) → Spread (From 0 0 0) (λ x. 0 < x) (map sideOff (spine t)) (draw t)
-unfolding handAfter opposite turned
-spread-draw t =
-    let ps = parts draw right switch (spine t) in
-    let c = proper (size t) (widest ps) draw (λ S h. drawn S) right switch (light-spine (size t) t (omega arith)) (omega arith) in
-    subst₂ (Spread _ _) (ways-parts draw right switch (spine t)) (sym (draw-parts t)) (spread (widest ps) 0 0 0 c (omega arith))
-
--- The law, for a subtree hung on a side.
-pub apart : (s : Side) (e t : ℕ) (S : Tree) → Fit s e (draw (facing s S)) → Apart (map sideOff (spineOn s S)) (hungOn s e t S)
-unfolding hungOn
-apart s e t S fit =
-    let n = spread-put e t s {A′ = λ Q. Unit {0}} {R′ = λ x. Unit {0}} fit (λ Q i. tt) (λ x i. tt) (spread-draw (facing s S)) in
-    subst (λ (ss : List Side). Apart ss (put s e t (draw (facing s S)))) (ap (λ (ls : List SpineNode). map (sideOn s) (map sideOff ls)) (spine-on s S) ∙ sides-on s (spineOn s S)) (n .apart)

@@ -1,21 +1,22 @@
--- THE LAW "no shared rows", for every spine of a drawing (`every-spine`): the whole tree's, and that of each subtree that hangs from a spine node, at any depth.
+-- THE LAW "no shared rows", for every spine of a drawing (`every-spine`): the spine of the whole tree, and that of each subtree that hangs from a spine node, at any depth. That every row
+-- holds a node is the theorem's `filled`.
 use mathlib.Core.Path.{_≡_, refl, ap, ap₂, sym, subst, _∙_}
 use mathlib.Core.List.{List, [], _∷_, map}
-use Prim.Native.Nat.{ℕ, zero, suc, _+_, _-_, _≤_, max}
+use Prim.Native.Nat.{ℕ, zero, suc, _+_, _-_, max}
 use native.Mathlib.Omega.{arith}
 use Rattle.segment.specs.declared.Point.{Point}
-use Rattle.segment.specs.Segment.{at}
 use Rattle.table.specs.Table.{Side, left, right}
 use Rattle.table.specs.Tree.{Tree, none, node, size}
 use Rattle.layout.specs.Layout.{Layout, blank, placed, width, mirror}
-use Rattle.layout.specs.Spine.{SpineNode, hangs, Role, knee, ordinary, switch, opposite, handAfter}
-use Rattle.layout.specs.Drawing.{join, Rest, drawing, draw}
+use Rattle.layout.specs.Spine.{SpineNode, hangs, Role, knee, handAfter}
+use Rattle.layout.specs.Drawing.{join, drawing, draw}
 use Rattle.layout.specs.Held.{facing, inwards, put, hungOn, heightOn, widthOn, spineOn, roleNext, far, lay, widestOn, Frame, Fit}
 use Rattle.layout.proofs.Rows.{shape, mirror-twice}
 use Rattle.layout.proofs.Spines.{hungTree}
 use Rattle.layout.proofs.Theorem.{promise}
 use Rattle.layout.proofs.Held.{Inside, inside-less, Rooms, no-rooms, knee-room, ordinary-room, switch-room, rooms-law, hung-inside, inside-fits, hung-law, draw-hung}
-use Rattle.layout.proofs.Apart.{sideOff, hungAt, Apart, each-hung, apart}
+use Rattle.layout.proofs.Apart.{sideOff, hungAt, Apart, each-hung}
+use Rattle.layout.proofs.ApartAlong.{apart}
 
 -- ---- the law
 

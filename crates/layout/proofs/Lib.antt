@@ -14,4 +14,5 @@ pub mod Records
 pub mod Sides
 pub mod Held
 pub mod Apart
+pub mod ApartAlong
 pub mod EverySpine
