@@ -1,6 +1,7 @@
 -- THE LAW "no shared rows", for every spine of a drawing (`every-spine`): the spine of the whole tree, and that of each subtree that hangs from a spine node, at any depth. That every row
 -- holds a node is the theorem's `filled`.
 use mathlib.Core.Path.{_≡_, refl, ap, ap₂, sym, subst, _∙_}
+use mathlib.Core.Bool.{Bool, true, false}
 use mathlib.Core.List.{List, [], _∷_, map}
 use Prim.Native.Nat.{ℕ, zero, suc, _+_, _-_, max}
 use native.Mathlib.Omega.{arith}
@@ -9,7 +10,7 @@ use Rattle.table.specs.Table.{Side, left, right}
 use Rattle.table.specs.Tree.{Tree, none, node, size}
 use Rattle.layout.specs.Layout.{Layout, blank, placed, width, mirror}
 use Rattle.layout.specs.Spine.{SpineNode, hangs, Role, knee, handAfter}
-use Rattle.layout.specs.Drawing.{join, drawing, draw}
+use Rattle.layout.specs.Drawing.{join, Rest, drawing, draw}
 use Rattle.layout.specs.Held.{facing, inwards, put, hungOn, heightOn, widthOn, spineOn, roleNext, far, lay, widestOn, Frame, Fit}
 use Rattle.layout.proofs.Rows.{shape, mirror-twice}
 use Rattle.layout.proofs.Spines.{hungTree}
@@ -69,6 +70,11 @@ unfolding handAt treeAt
 hung-join k P s {a} {o} {S} {ls} {D} {N} d n =
     record { each = each-hung (λ i M. HungSomewhere (handAt a o (hangs k s S ∷ ls) i) (treeAt (hangs k s S ∷ ls) i) M) k P s D N (map sideOff ls) d (n .each) }
 
+either : (c : Bool) {a : Side} {o : Role} {ls : List SpineNode} (x y : Rest) → AllHung a o ls (x .drawn) → AllHung a o ls (y .drawn) →
+    AllHung a o ls (elim c as (λ b. Rest) [ true ↦ x | false ↦ y ] .drawn)
+either true x y h i = h
+either false x y h i = i
+
 -- As a program lays it.
 laid-hung : (B W H r p : ℕ) {a : Side} {e f : ℕ} {o : Role} {ls : List SpineNode} → Rooms B W a e f o ls → AllHung a o ls (lay a e f o H r p ls .drawn)
 unfolding lay far join handAfter handAt treeAt hungAt
@@ -76,12 +82,9 @@ laid-hung B W H r p (no-rooms {a}) = record { each = λ i. no-tree a }
 laid-hung B W H r p (ordinary-room {a} {s} {e} {k} {S} i n) = hung-join k _ s (hung-there B a e 2 (r + 1) S i) (laid-hung B W (r + heightOn a S) (r + max 1 (heightOn a S)) p n)
 laid-hung B W H r p (switch-room {a} {s} {e} {k} {S} w i x n) =
     hung-join k _ s (hung-there B a e 1 (r + 1) S (inside-less B a e (omega arith) i)) (laid-hung B W (r + heightOn a S + p) (r + 1) 0 n)
-laid-hung B W H r p (knee-room {a = left} {s = left} {e} {k} {S} i n) = hung-join k _ left (hung-there B left e 1 _ S i) (laid-hung B W (max H r) (max H r + 1) (heightOn left S) n)
-laid-hung B W H r p (knee-room {a = right} {s = right} {e} {k} {S} i n) = hung-join k _ right (hung-there B right e 1 _ S i) (laid-hung B W (max H r) (max H r + 1) (heightOn right S) n)
-laid-hung B W H r p (knee-room {a = left} {s = right} {e} {k} {S} i n) =
-    hung-join k _ right (hung-there B left e 1 _ S i) (laid-hung B W (max H r + heightOn left S) (max H r + heightOn left S + 1) 0 n)
-laid-hung B W H r p (knee-room {a = right} {s = left} {e} {k} {S} i n) =
-    hung-join k _ left (hung-there B right e 1 _ S i) (laid-hung B W (max H r + heightOn right S) (max H r + heightOn right S + 1) 0 n)
+laid-hung B W H r p (knee-room {a} {s} {e} {k} {S} i n) = either (far a s) _ _
+    (hung-join k _ s (hung-there B a e 1 _ S i) (laid-hung B W (max H r + heightOn a S) (max H r + heightOn a S + 1) 0 n))
+    (hung-join k _ s (hung-there B a e 1 _ S i) (laid-hung B W (max H r) (max H r + 1) (heightOn a S) n))
 
 -- The other hand's edge, and columns enough.
 other : (s : Side) (e w : ℕ) → (f : ℕ) × Frame s e f w
