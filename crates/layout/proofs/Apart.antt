@@ -1,4 +1,4 @@
--- Of one spine: hung drawings share no row, and spine nodes are outside their rectangles (`Apart`). How that is kept when a spine node is put before the rest (`spread-join`), and
+-- Of one spine: hung drawings share no row, and spine nodes are outside their rectangles (`SpineApart`). How that is kept when a spine node is put before the rest (`spread-join`), and
 -- when the whole is held by an edge (`spread-put`).
 use mathlib.Core.Path.{_≡_, refl, ap, sym, subst, _∙_}
 use mathlib.Core.List.{List, [], _∷_, map}
@@ -38,14 +38,14 @@ hungAt [] i L = blank
 hungAt (s ∷ ss) zero L = branch s L
 hungAt (s ∷ ss) (suc i) L = hungAt ss i (branch (opposite s) L)
 
--- A drawing occupies the rows from its highest node's to its lowest node's.
+-- A drawing occupies the rows from its highest node's to its lowest node's: a node is in row x or above it, and one in row x or below it.
 pub record OccupiesRow (x : ℕ) (D : Layout) : Type 0 where
   pub high : Node D
   pub low : Node D
   pub from : point high .row ≤ x
   pub to : x ≤ point low .row
 
--- Q is in the rectangle of a drawing: in its rows, and from its leftmost node's column to its rightmost node's.
+-- Q is in the rectangle of a drawing: in its rows, and likewise in its columns.
 pub record InRectangle (Q : Point) (D : Layout) : Type 0 where
   pub rows : OccupiesRow (Q .row) D
   pub leftmost : Node D
@@ -53,7 +53,7 @@ pub record InRectangle (Q : Point) (D : Layout) : Type 0 where
   pub from : point leftmost .column ≤ Q .column
   pub to : Q .column ≤ point rightmost .column
 
-pub record Apart (ss : List Side) (L : Layout) : Type 0 where
+pub record SpineApart (ss : List Side) (L : Layout) : Type 0 where
   -- "the drawings of its hung subtrees occupy rows that no other drawing of that spine occupies"
   pub rows-apart : (x i j : ℕ) → OccupiesRow x (hungAt ss i L) → OccupiesRow x (hungAt ss j L) → i ≡ j
   -- "spine boxes lie outside their rectangles"
@@ -61,7 +61,7 @@ pub record Apart (ss : List Side) (L : Layout) : Type 0 where
 
 -- The form in which the argument goes: also, A holds of all spine nodes, and R of all rows that hung drawings occupy.
 pub record Spread (A : Point → Type 0) (R : ℕ → Type 0) (ss : List Side) (L : Layout) : Type 0 where
-  pub apart : Apart ss L
+  pub apart : SpineApart ss L
   pub node : (i : ℕ) (h : Rooted (spineAt ss i L)) → A (point (top h))
   pub hung : (i x : ℕ) → OccupiesRow x (hungAt ss i L) → R x
 

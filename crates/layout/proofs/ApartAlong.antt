@@ -18,7 +18,7 @@ use Rattle.layout.proofs.Heights.{Kept}
 use Rattle.layout.proofs.Spines.{light-spine, parts, proper}
 use Rattle.layout.proofs.Whole.{drawn, draw-parts}
 use Rattle.layout.proofs.Sides.{sideOn, spine-on}
-use Rattle.layout.proofs.Apart.{sideOff, hungAt, Apart, Spread, narrow, narrow-spine, no-row, spread-join, rows-shift, in-shift, spread-put, flip-put}
+use Rattle.layout.proofs.Apart.{sideOff, hungAt, SpineApart, Spread, narrow, narrow-spine, no-row, spread-join, rows-shift, in-shift, spread-put, flip-put}
 
 -- ---- along a spine
 
@@ -168,8 +168,8 @@ spread-draw t =
     let c = proper (size t) (widest ps) draw (λ S h. drawn S) right switch (light-spine (size t) t (omega arith)) (omega arith) in
     subst₂ (Spread _ _) (ways-parts draw right switch (spine t)) (sym (draw-parts t)) (spread (widest ps) 0 0 0 c (omega arith))
 
-pub apart : (s : Side) (e t : ℕ) (S : Tree) → Fit s e (draw (facing s S)) → Apart (map sideOff (spineOn s S)) (hungOn s e t S)
+pub apart : (s : Side) (e t : ℕ) (S : Tree) → Fit s e (draw (facing s S)) → SpineApart (map sideOff (spineOn s S)) (hungOn s e t S)
 unfolding hungOn
 apart s e t S fit =
     let n = spread-put e t s {A′ = λ Q. Unit {0}} {R′ = λ x. Unit {0}} fit (λ Q i. tt) (λ x i. tt) (spread-draw (facing s S)) in
-    subst (λ (ss : List Side). Apart ss (put s e t (draw (facing s S)))) (ap (λ (ls : List SpineNode). map (sideOn s) (map sideOff ls)) (spine-on s S) ∙ sides-on s (spineOn s S)) (n .apart)
+    subst (λ (ss : List Side). SpineApart ss (put s e t (draw (facing s S)))) (ap (λ (ls : List SpineNode). map (sideOn s) (map sideOff ls)) (spine-on s S) ∙ sides-on s (spineOn s S)) (n .apart)

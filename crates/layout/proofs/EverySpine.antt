@@ -16,7 +16,7 @@ use Rattle.layout.proofs.Rows.{shape, mirror-twice}
 use Rattle.layout.proofs.Spines.{hungTree}
 use Rattle.layout.proofs.Theorem.{promise}
 use Rattle.layout.proofs.Held.{Inside, inside-less, Rooms, no-rooms, knee-room, ordinary-room, switch-room, rooms-law, hung-inside, inside-fits, hung-law, draw-hung}
-use Rattle.layout.proofs.Apart.{sideOff, hungAt, Apart, each-hung}
+use Rattle.layout.proofs.Apart.{sideOff, hungAt, SpineApart, each-hung}
 use Rattle.layout.proofs.ApartAlong.{apart}
 
 -- ---- the law
@@ -38,10 +38,10 @@ pub data DrawnIn (t : Tree) : Side → Tree → Layout → Type 0 where
   hung : {s : Side} {S : Tree} {L : Layout} (i : ℕ) → DrawnIn t s S L → DrawnIn t (handAt s knee (spineOn s S) i) (treeAt (spineOn s S) i) (hungAt (map sideOff (spineOn s S)) i L)
 
 -- "For every spine in a plain plan, the drawings of its hung subtrees occupy rows that no other drawing of that spine occupies, and spine boxes lie outside their rectangles."
-pub record SpineApart (s : Side) (S : Tree) (L : Layout) : Type 0 where
+pub record NoSharedRows (s : Side) (S : Tree) (L : Layout) : Type 0 where
   -- the same records and links
   pub same : shape L ≡ S
-  pub apart : Apart (map sideOff (spineOn s S)) L
+  pub apart : SpineApart (map sideOff (spineOn s S)) L
 
 -- ---- what is drawn is hung on a side
 
@@ -123,11 +123,11 @@ unfolding facing
 facing-twice left t = refl
 facing-twice right t = mirror-twice t
 
-pub every-spine : {t : Tree} {s : Side} {S : Tree} {L : Layout} → DrawnIn t s S L → SpineApart s S L
+pub every-spine : {t : Tree} {s : Side} {S : Tree} {L : Layout} → DrawnIn t s S L → NoSharedRows s S L
 unfolding hungOn
 every-spine {s} {S} d =
     let z = hung-somewhere d in
-    subst (SpineApart s S) (sym (z .is)) (record {
+    subst (NoSharedRows s S) (sym (z .is)) (record {
       same = shape-put s (z .e) (z .t) (draw (facing s S)) ∙ (ap (facing s) (promise (facing s S) .same) ∙ facing-twice s S);
       apart = apart s (z .e) (z .t) S (z .fit);
     })
