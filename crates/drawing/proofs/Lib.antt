@@ -1,6 +1,8 @@
--- Laws of the drawer's answer, and of placing.
+-- Laws of the drawer's answer, and of placing. The answer: Answered, Whole. Storing: StoredPoints, StoredOrder. Along a spine: Shapes, Columns, Onward, Walking,
+-- Starting.
 pub mod Answered
-pub mod Store
+pub mod StoredPoints
+pub mod StoredOrder
 pub mod Shapes
 pub mod Columns
 pub mod Onward

@@ -19,7 +19,7 @@ use Rattle.layout.proofs.Held.{bottom, Inside, Rooms, knee-room, ordinary-room,
 use Rattle.measure.specs.Prepared.{codeOf, Prepared, Along, no-spine, onward}
 use Rattle.drawing.specs.Answer.{store}
 use Rattle.drawing.specs.Placing.{isSwitch, point, kept, finish, finished, Ready}
-use Rattle.drawing.proofs.Store.{Apart, store-comm, store-join}
+use Rattle.drawing.proofs.StoredOrder.{Apart, store-comm, store-join}
 use Rattle.drawing.proofs.Shapes.{Disjoint, treeOf, hung-none, height-none, width-none, shape-hung, shape-lay}
 use Rattle.drawing.proofs.Columns.{over-edge, over-back}
 

@@ -1,17 +1,17 @@
 -- From the spine to what hangs from it: a hung subtree has less than half of the nodes (`light-spine`), the roles are proper (`proper`), and what is placed has the
 -- spine's tree (`shaped`).
-use mathlib.Core.Path.{_≡_, refl, ap, ap₂, subst, sym, _∙_}
+use mathlib.Core.Path.{_≡_, refl, ap, ap₂, _∙_}
 use mathlib.Core.Bool.{Bool, true, false, not}
 use mathlib.Core.List.{List, [], _∷_, map}
-use Prim.Native.Nat.{ℕ, suc, _+_, _*_, _≤_, _<_, max}
+use Prim.Native.Nat.{ℕ, suc, _+_, _*_, _≤_, _<_}
 use native.Mathlib.Omega.{arith}
 use lib.Dec.{T, leb, leb→le, nleb→lt}
 use Rattle.segment.specs.declared.Point.{Point}
 use Rattle.table.specs.Table.{Side, left, right}
 use Rattle.table.specs.Tree.{Tree, none, node, size}
-use Rattle.layout.specs.Layout.{Layout, blank, placed, width, shift, flip, mirror}
+use Rattle.layout.specs.Layout.{Layout, blank, placed, width, mirror}
 use Rattle.layout.specs.Spine.{SpineNode, hangs, spine, Role, knee, ordinary, switch, opposite, seen, runRole, roleAfter, handAfter, assigned, rolesAfter, roles}
-use Rattle.layout.specs.Drawing.{Part, part, hang, widest, join, Rest, place}
+use Rattle.layout.specs.Drawing.{Part, part, hang, widest, join, place}
 use Rattle.layout.specs.Held.{facing}
 use Rattle.layout.proofs.Clean.{Rooted, rooted}
 use Rattle.layout.proofs.Rows.{shape, mirror-twice, size-mirror, shape-shift, shape-flip}
@@ -59,7 +59,7 @@ light-spine n (node k a b) h = go (leb (size b) (size a)) (leb→le (size b) (si
 pub size-seen : (s : Side) (l : SpineNode) → size (hungTree (seen s l)) ≡ size (hungTree l)
 unfolding seen
 size-seen left l = refl
-size-seen right (hangs k s t) = size-mirror t
+size-seen right (hangs k s t) = omega (arith, size-mirror t)
 
 pub size-over : (l : SpineNode) (t : Tree) → size (over l t) ≡ suc (size (hungTree l) + size t)
 unfolding over size
@@ -135,9 +135,14 @@ proper-one W d knee l g w c = proper-run W d l g w c
 proper-one W d ordinary l g w c = proper-run W d l g w c
 proper-one W d switch (hangs k s t) g w c = a-knee g w c
 
-widest-one : (d : Tree → Layout) (o : Role) (l : SpineNode) (ps : List Part) → widest (hang d (assigned o l) ∷ ps) ≡ max (width (d (hungTree l))) (widest ps)
+-- W is not below the width of a hung drawing.
+widest-one : (d : Tree → Layout) (o : Role) (l : SpineNode) (ps : List Part) → (width (d (hungTree l)) ≤ widest (hang d (assigned o l) ∷ ps)) × (widest ps ≤ widest (hang d (assigned o l) ∷ ps))
 unfolding hang widest
-widest-one d o (hangs k s t) ps = refl
+widest-one d o (hangs k s t) ps = (omega arith, omega arith)
+
+widest-less : (B : ℕ) (d : Tree → Layout) (o : Role) (l : SpineNode) (ps : List Part) → width (d (hungTree l)) ≤ B → widest ps ≤ B → widest (hang d (assigned o l) ∷ ps) ≤ B
+unfolding hang widest
+widest-less B d o (hangs k s t) ps h i = omega arith
 
 -- ---- the tree
 
@@ -195,7 +200,7 @@ module _ (n W : ℕ) (d : Tree → Layout) (hd : (S : Tree) → 2 * size S + 1 �
   widest-at-most B h s o (light-node {l} {ls} f g i) =
       let s′ = handAfter o s in
       let o′ = roleAfter o (seen s′ l) in
-      omega (arith, widest-one d o′ (seen s′ l) (parts d s′ o′ ls), h (hungTree (seen s′ l)) (omega (arith, size-seen s′ l)), widest-at-most B h s′ o′ i)
+      widest-less B d o′ (seen s′ l) (parts d s′ o′ ls) (h (hungTree (seen s′ l)) (omega (arith, size-seen s′ l))) (widest-at-most B h s′ o′ i)
 
   shaped-one : (o : Role) (l : SpineNode) (ps : List Part) (N : Tree) → Drawn (hungTree l) (d (hungTree l)) → ((H r p : ℕ) → shape (place W H r p ps .drawn) ≡ N) →
       (H r p : ℕ) → shape (place W H r p (hang d (assigned o l) ∷ ps) .drawn) ≡ over l (facing (handAfter o left) N)

@@ -1,18 +1,18 @@
 -- The fork of a spine at a node, from the links of an accepted table and the sizes of the subtrees. Rests on the laws of accepted tables.
 use mathlib.Core.Bool.{Bool, true, false, cond}
-use mathlib.Core.Path.{_≡_, refl, sym, ap, _∙_}
+use mathlib.Core.Path.{_≡_, ap, _∙_}
 use mathlib.Core.List.{List, _∷_}
-use mathlib.Core.Logic.{_⊎_, inl, inr, ⊎-elim}
-use Prim.Native.Nat.{ℕ, _+_, _<_}
+use mathlib.Core.Logic.{inl, inr}
+use Prim.Native.Nat.{ℕ, _<_}
 use native.Mathlib.Omega.{arith}
 use lib.Dec.{T, leb, ltb}
-use lib.ListN.{getD, length}
+use lib.ListN.{getD}
 use borrow.Author.Tests.{ltb-true, ltb-false, lt-leb, le-leb}
 use Rattle.table.specs.Lists.{member}
-use Rattle.table.specs.Table.{left, right, records, leftOf, rightOf, chain}
+use Rattle.table.specs.Table.{left, right, leftOf, rightOf, chain}
 use Rattle.table.specs.Tree.{Tree, node, size, treeAt}
 use Rattle.table.specs.Refusal.{fault}
-use Rattle.table.proofs.Accepted.{records-bounds, chain-within, links-chained, tree-unfolds, size-node}
+use Rattle.table.proofs.Accepted.{records-bounds, chain-within, links-chained, tree-unfolds}
 use Rattle.layout.specs.Spine.{hangs}
 use Rattle.layout.specs.Held.{spineOn}
 use Rattle.measure.specs.Sized.{Named, Sized}

@@ -1,12 +1,12 @@
 -- What is prepared of a tree depends only on the entries at its nodes: counts of nodes along a spine, and frames. Rests on the laws of accepted tables.
 use mathlib.Core.Bool.{Bool, true, false}
-use mathlib.Core.Path.{_≡_, refl, sym, ap, subst, _∙_}
+use mathlib.Core.Path.{_≡_, refl, ap, _∙_}
 use mathlib.Core.Logic.{_⊎_, inl, inr, ⊎-elim}
-use mathlib.Core.List.{List, [], _∷_, _++_}
+use mathlib.Core.List.{List, [], _∷_}
 use Prim.Native.Nat.{ℕ, _+_, _≤_, _<_}
 use native.Mathlib.Omega.{arith}
 use lib.Dec.{T, leb}
-use lib.ListN.{getD, length, set, length-set}
+use lib.ListN.{getD, length, length-set}
 use lib.Seq.{getD-set-same, getD-set-other}
 use Rattle.table.specs.Lists.{member, count}
 use Rattle.table.specs.Table.{Side, left, right, records, leftOf, rightOf, linkOf, chain}
@@ -15,7 +15,7 @@ use Rattle.table.specs.Refusal.{fault}
 use Rattle.table.proofs.Lists.{same, same-one, count-append, member-count, repeats-count}
 use Rattle.table.proofs.Chain.{reached}
 use Rattle.table.proofs.Accepted.{links-chained, nodes-distinct, down, tree-unfolds, tree-none}
-use Rattle.layout.specs.Spine.{SpineNode, hangs, Role, knee, seen, roleAfter, handAfter}
+use Rattle.layout.specs.Spine.{SpineNode, hangs, Role, seen, roleAfter, handAfter}
 use Rattle.layout.specs.Held.{spineOn, roleNext}
 use Rattle.measure.specs.Sized.{Named}
 use Rattle.measure.specs.Prepared.{codeOf, Prepared, no-spine, a-spine, Along, ended, onward}

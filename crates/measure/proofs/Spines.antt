@@ -1,24 +1,24 @@
 -- The list of roles, kept along a spine. Rests on Forks and Choices.
-use mathlib.Core.Path.{_≡_, refl, sym, ap, subst, _∙_}
+use mathlib.Core.Path.{_≡_, refl, sym, ap, _∙_}
 use mathlib.Core.Logic.{_⊎_, _↔_, inl, inr, ⊎-elim}
-use mathlib.Core.List.{List, [], _∷_}
-use Prim.Native.Nat.{ℕ, _<_}
+use mathlib.Core.List.{List}
+use Prim.Native.Nat.{ℕ}
 use native.Mathlib.Omega.{arith}
 use lib.Dec.{T}
 use lib.ListN.{set}
 use Rattle.table.specs.Lists.{member}
-use Rattle.table.specs.Table.{Side, left, right, chain}
-use Rattle.table.specs.Tree.{Tree, none, node, size, treeAt}
+use Rattle.table.specs.Table.{Side, chain}
+use Rattle.table.specs.Tree.{Tree, none, node, treeAt}
 use Rattle.table.specs.Refusal.{fault}
 use Rattle.table.proofs.Accepted.{tree-unfolds, tree-none}
-use Rattle.layout.specs.Spine.{SpineNode, hangs, Role as LayoutRole, seen, roleAfter, handAfter}
+use Rattle.layout.specs.Spine.{SpineNode, Role as LayoutRole, seen, roleAfter, handAfter}
 use Rattle.layout.specs.Held.{spineOn}
 use Rattle.measure.specs.declared.Fork.{Fork}
 use Rattle.measure.specs.declared.roles.Role.{Role}
 use Rattle.measure.specs.Sized.{Named}
 use Rattle.measure.specs.Forked.{sideOf, Forked}
 use Rattle.measure.specs.Prepared.{codeOf}
-use Rattle.measure.specs.Roles.{handOf, roleOf, Stands, nodeOf, Follows, withRoles}
+use Rattle.measure.specs.Roles.{handOf, roleOf, nodeOf, Follows, withRoles}
 
 -- A record that is not zero is chained; one that stands for no tree is zero.
 pub chained : (t : List ℕ) (k : ℕ) → Named t k → (k ≡ 0 → ⊥) → T (member k (chain t))

@@ -1,27 +1,28 @@
 -- The walk along a spine that measures it: what holds at each node, how one node is passed, and what the end gives. Rests on Choices, Frames and the
 -- width law.
 use mathlib.Core.Bool.{Bool, true, false, cond, _||_}
-use mathlib.Core.Path.{_≡_, refl, sym, ap, ap₂, subst, _∙_}
-use mathlib.Core.Logic.{_⊎_, inl, inr, ⊎-elim}
+use mathlib.Core.Path.{_≡_, refl, sym, ap, subst, _∙_}
+use mathlib.Core.Logic.{inl, inr}
 use mathlib.Core.List.{List, [], _∷_, map}
 use Prim.Native.Nat.{ℕ, _+_, _≤_, _<_, max}
 use native.Mathlib.Omega.{arith}
 use lib.Dec.{T}
-use lib.ListN.{getD, length, set, length-set}
+use lib.ListN.{getD, length, set}
 use lib.Seq.{getD-set-same, getD-set-other}
 use Rattle.table.specs.Lists.{member, count}
-use Rattle.table.specs.Table.{Side, left, right, leftOf, rightOf, chain}
+use Rattle.table.specs.Table.{Side, left, right, chain}
 use Rattle.table.specs.Tree.{Tree, none, node, size, nodes, treeAt}
 use Rattle.table.specs.Refusal.{fault}
 use Rattle.table.proofs.Lists.{same, same-one, length-within}
 use Rattle.table.proofs.Chain.{length-nodes}
 use Rattle.table.proofs.Accepted.{records-bounds, chain-length, size-below, tree-unfolds, tree-none}
-use Rattle.layout.specs.Layout.{width, mirror}
 use Rattle.layout.specs.Spine.{SpineNode, hangs, Role, knee, ordinary, switch, opposite, seen, roleAfter, handAfter, assigned, Assigned, rolesAfter}
-use Rattle.layout.specs.Drawing.{Part, part, hang, widest, draw}
+use Rattle.layout.specs.Drawing.{Part, hang, widest, draw}
 use Rattle.layout.specs.Held.{facing, widthOn, spineOn, roleNext, rolesOn, widestOn}
-use Rattle.layout.specs.Width.{edge, turn, reaches, turns, partsOn}
-use Rattle.layout.proofs.Width.{width-law, widest-less, width-small}
+use Rattle.layout.specs.Width.{edge, turn}
+use Rattle.layout.proofs.Spines.{parts}
+use Rattle.layout.proofs.Sides.{partsOn}
+use Rattle.layout.proofs.Width.{reaches, turns, width-law, widest-less, width-small}
 use Rattle.measure.specs.declared.roles.Role.{Role as CodeRole}
 use Rattle.measure.specs.declared.walk.Walk.{Walk}
 use Rattle.measure.specs.Sized.{Named}
@@ -31,11 +32,7 @@ use Rattle.measure.specs.Roles.{handOf, roleOf, withRoles}
 use Rattle.measure.specs.Measured.{Kept, Measured, Longer}
 use Rattle.measure.proofs.Forks.{named-within}
 use Rattle.measure.proofs.Choices.{code-same, code-small}
-use Rattle.measure.proofs.Frames.{countOn, countHung, count-spine, hung-below, nodes-named, once, Agree, prepared-frame, along-frame, Coded, coded-frame, with-kept, with-coded, AlongAfter, along-node}
-
--- The parts that follow a node of role o on the hand a.
-abbrev pub parts : Side → Role → List SpineNode → List Part
-parts a o ls = map (hang draw) (rolesAfter a o ls)
+use Rattle.measure.proofs.Frames.{countOn, countHung, count-spine, hung-below, nodes-named, once, prepared-frame, along-frame, Coded, coded-frame, with-kept, with-coded, AlongAfter, along-node}
 
 -- The three counts of a spine, one node at a time.
 widest-node : (a : Side) (o : Role) (k : ℕ) (h : Side) (S : Tree) (ps : List Part) → widest (hang draw (assigned o (seen a (hangs k h S))) ∷ ps) ≡ max (widthOn a S) (widest ps)
@@ -72,9 +69,9 @@ pub record Walking (t : List ℕ) (s : Side) (root : ℕ) (R₀ G₀ R G : List 
   pub inside : (x : ℕ) → count x (nodes (treeAt t k)) ≤ count x (nodes (treeAt t root))
   pub kept-roles : Kept (treeAt t root) R₀ R
   pub kept-gaps : Kept (treeAt t root) G₀ G
-  pub gap : max g (widest (parts a o (spineOn s (treeAt t k)))) ≡ widestOn s (treeAt t root)
-  pub reach : max e (reaches (parts a o (spineOn s (treeAt t k)))) ≡ reaches (partsOn s (treeAt t root))
-  pub turned : b || turns (parts a o (spineOn s (treeAt t k))) ≡ turns (partsOn s (treeAt t root))
+  pub gap : max g (widest (parts draw a o (spineOn s (treeAt t k)))) ≡ widestOn s (treeAt t root)
+  pub reach : max e (reaches (parts draw a o (spineOn s (treeAt t k)))) ≡ reaches (partsOn s (treeAt t root))
+  pub turned : b || turns (parts draw a o (spineOn s (treeAt t k))) ≡ turns (partsOn s (treeAt t root))
 
 -- The first node is a knee of the drawing's side, as after a switch of the other hand.
 first-roles : (s : Side) (ls : List SpineNode) → rolesAfter (opposite s) switch ls ≡ rolesOn s ls
@@ -148,10 +145,10 @@ module _ (t : List ℕ) (ok : fault t ≡ 0) (s : Side) (root : ℕ) where
       inside = λ x. omega (arith, counted x, v .inside x);
       kept-roles = λ x i. m .kept-roles x (omega (arith, counted x, v .inside x)) ∙ v .kept-roles x i;
       kept-gaps = λ x i. m .kept-gaps x (omega (arith, counted x, v .inside x)) ∙ v .kept-gaps x i;
-      gap = omega (arith, ap (λ (ns : List SpineNode). widest (parts a o ns)) (d .forks), widest-node hand role k h (treeAt t hung) (parts hand role ls), m .wide, v .gap);
-      reach = omega (arith, ap (λ (ns : List SpineNode). reaches (parts a o ns)) (d .forks), reaches-node hand role k h (treeAt t hung) (parts hand role ls), m .wide, v .reach);
-      turned = turn-or role b (turns (parts hand role ls))
-          ∙ ap (λ (c : Bool). b || c) (sym (ap (λ (ns : List SpineNode). turns (parts a o ns)) (d .forks) ∙ turns-node hand role k h (treeAt t hung) (parts hand role ls)))
+      gap = omega (arith, ap (λ (ns : List SpineNode). widest (parts draw a o ns)) (d .forks), widest-node hand role k h (treeAt t hung) (parts draw hand role ls), m .wide, v .gap);
+      reach = omega (arith, ap (λ (ns : List SpineNode). reaches (parts draw a o ns)) (d .forks), reaches-node hand role k h (treeAt t hung) (parts draw hand role ls), m .wide, v .reach);
+      turned = turn-or role b (turns (parts draw hand role ls))
+          ∙ ap (λ (c : Bool). b || c) (sym (ap (λ (ns : List SpineNode). turns (parts draw a o ns)) (d .forks) ∙ turns-node hand role k h (treeAt t hung) (parts draw hand role ls)))
           ∙ v .turned;
     }
       where
@@ -179,14 +176,14 @@ module _ (t : List ℕ) (ok : fault t ≡ 0) (s : Side) (root : ℕ) where
 
     pub gap-whole : k ≡ 0 → g ≡ widestOn s S
     unfolding rolesAfter widest
-    gap-whole z = omega (arith, ap (λ (ls : List SpineNode). widest (parts a o ls)) (none-left z), v .gap)
+    gap-whole z = omega (arith, ap (λ (ls : List SpineNode). widest (parts draw a o ls)) (none-left z), v .gap)
 
     pub wide-whole : k ≡ 0 → cond b (g + 3) e ≡ widthOn s S
     unfolding rolesAfter reaches turns
     wide-whole z = cc (width-law s S, gap-whole z, counts .0, counts .1)
       where
         counts : (e ≡ reaches (partsOn s S)) × (b ≡ turns (partsOn s S))
-        counts = (omega (arith, ap (λ (ls : List SpineNode). reaches (parts a o ls)) (none-left z), v .reach), sym (or-none b) ∙ ap (λ (d : Bool). b || d) (sym (ap (λ (ls : List SpineNode). turns (parts a o ls)) (none-left z))) ∙ v .turned)
+        counts = (omega (arith, ap (λ (ls : List SpineNode). reaches (parts draw a o ls)) (none-left z), v .reach), sym (or-none b) ∙ ap (λ (d : Bool). b || d) (sym (ap (λ (ls : List SpineNode). turns (parts draw a o ls)) (none-left z))) ∙ v .turned)
 
     pub along-whole : k ≡ 0 → Along R G s knee (spineOn s S)
     along-whole z = first-along s (spineOn s S) (v .finish R G (λ x i. refl) (λ x i. refl) (subst (AlongAfter R G a o) (sym (none-left z)) ended))

@@ -30,7 +30,7 @@ roleOf RightKnee = knee
 roleOf OrdinaryRight = ordinary
 roleOf SwitchLeft = switch
 
--- A role for a fork's node, whatever its record k, where the hung record stands for the tree S.
+-- The hung record of a fork stands for the tree S; the spine node of the fork, at the record k.
 abbrev pub Stands : Fork → Tree → Type 0
 Stands f S = (f .hung ≡ 0) ↔ (S ≡ none)
 

@@ -23,18 +23,18 @@ fn measure_hung(
     roles: &mut [u16],
     gaps: &mut [u16],
     child: usize,
-    right_hand: bool,
+    mirrored: bool,
 ) -> usize
     requires { ⌜ fault (now table) ≡ 0 ⌝ }
     requires { ⌜ Named (now table) child ⌝ }
     requires { ⌜ Sized (now table) (now sizes) ⌝ }
     requires { ⌜ (length (now roles) ≡ 4097) × (length (now gaps) ≡ 4097) ⌝ }
-    ensures { λ r. ⌜ Measured (now (table .entry)) (sideOf «right_hand») child (now (roles .entry)) (now (gaps .entry)) (now (roles .exit)) (now (gaps .exit)) r ⌝ }
+    ensures { λ r. ⌜ Measured (now (table .entry)) (sideOf mirrored) child (now (roles .entry)) (now (gaps .entry)) (now (roles .exit)) (now (gaps .exit)) r ⌝ }
 {
     if child == 0 {
         return 0;
     }
-    if right_hand {
+    if mirrored {
         return measure_right(table, sizes, roles, gaps, child);
     }
     measure_left(table, sizes, roles, gaps, child)

@@ -17,6 +17,7 @@ ghost use Rattle.measure.specs.Forked.{sideOf};
 ghost use Rattle.measure.specs.Prepared.{codeOf};
 ghost use Rattle.measure.specs.Roles.{handOf, roleOf, Runs, Follows, withRoles};
 
+// Document 01's six roles; specs/Roles gives the hand of each, and what it is on that hand.
 pub enum Role {
     LeftKnee,
     OrdinaryLeft,

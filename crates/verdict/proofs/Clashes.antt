@@ -2,14 +2,11 @@
 use mathlib.Core.Path.{_≡_, refl, sym, ap, _∙_, subst}
 use mathlib.Core.Logic.{_↔_, _≢_, _⊎_, inl, inr, ⊎-elim}
 use mathlib.Core.List.{List}
-use Prim.Native.Nat.{ℕ, _*_, _≤_}
-use native.Mathlib.Nat.{eq-of-mul-eq-mul-left}
+use Prim.Native.Nat.{ℕ}
 use native.Mathlib.Decide.{ℕ-discrete}
 use Rattle.segment.specs.declared.Point.{Point}
-use Rattle.segment.specs.Segment.{Is, On, Clash}
-use Rattle.segment.proofs.CrossProduct.{on-turn}
-use Rattle.segment.proofs.SharedPoint.{at-start}
-use Rattle.segment.proofs.Clashing.{point}
+use Rattle.segment.specs.Segment.{Is, Clash}
+use Rattle.segment.proofs.Clashing.{clash-turn, on-line→clash}
 use Rattle.table.specs.Table.{Side}
 use Rattle.table.specs.Refusal.{fault}
 use Rattle.verdict.specs.Lines.{Chained, pointOf, Line}
@@ -37,14 +34,6 @@ end-of p k c (inr e) = (c, e, inr refl)
 of-end : (p : List ℕ) {k c b : ℕ} → (b ≡ k) ⊎ (b ≡ c) → (pointOf p b ≡ pointOf p k) ⊎ (pointOf p b ≡ pointOf p c)
 of-end p (inl e) = inl (ap (pointOf p) e)
 of-end p (inr e) = inr (ap (pointOf p) e)
-
--- One point for (x, y) and q.
-is-one : {A B : Point} {q x y : ℕ} → 1 ≤ q → Is A q x y → Is B q x y → A ≡ B
-is-one {q} one a b = point (eq-of-mul-eq-mul-left q one _ _ (sym (a .in-column) ∙ b .in-column)) (eq-of-mul-eq-mul-left q one _ _ (sym (a .in-row) ∙ b .in-row))
-
-on-end : (p : List ℕ) {b k c : ℕ} (q : ℕ) → (b ≡ k) ⊎ (b ≡ c) → On (pointOf p k) (pointOf p c) q (q * pointOf p b .column) (q * pointOf p b .row)
-on-end p {b} {k} {c} q (inl e) = rw e (at-start (pointOf p k) (pointOf p c) q)
-on-end p {b} {k} {c} q (inr e) = rw e (on-turn (at-start (pointOf p c) (pointOf p k) q))
 
 pub clash→touch : {t p : List ℕ} → LinesClash t p → LinesTouch t p
 clash→touch {t} {p} h = let x = h .clash in record {
@@ -102,10 +91,17 @@ module _ (t p : List ℕ) (ok : fault t ≡ 0) (apart : SamePoint t p → ⊥) w
   }
 
   -- A node on a line that it does not end ends another line, which clashes with it.
-  lies→touch : NodeOnLine t p → LinesTouch t p
-  lies→touch h = other (ends-line t ok (h .line) (h .b) (h .chained))
+  lies→clash : NodeOnLine t p → LinesClash t p
+  lies→clash h = other (ends-line t ok (h .line) (h .b) (h .chained))
     where
-      other : EndsLine t (h .b) → LinesTouch t p
+      clash : (C : Point) → Clash (pointOf p (h .k)) (pointOf p (h .c)) (pointOf p (h .b)) C
+      clash C = on-line→clash (λ e. h .no-end (inl (one-node (h .chained) (h .line .chained) e))) (λ e. h .no-end (inr (one-node (h .chained) (child-chained t ok (h .line)) e))) (h .lies)
+
+      at-end : {m d : ℕ} → (h .b ≡ m) ⊎ (h .b ≡ d) → Clash (pointOf p (h .k)) (pointOf p (h .c)) (pointOf p m) (pointOf p d)
+      at-end {m} {d} (inl e) = subst (λ n. Clash (pointOf p (h .k)) (pointOf p (h .c)) (pointOf p n) (pointOf p d)) e (clash (pointOf p d))
+      at-end {m} {d} (inr e) = subst (λ n. Clash (pointOf p (h .k)) (pointOf p (h .c)) (pointOf p m) (pointOf p n)) e (clash-turn (clash (pointOf p m)))
+
+      other : EndsLine t (h .b) → LinesClash t p
       other e = record {
         k = h .k;
         c = h .c;
@@ -116,14 +112,8 @@ module _ (t p : List ℕ) (ok : fault t ≡ 0) (apart : SamePoint t p → ⊥) w
         line = h .line;
         line′ = e .line;
         different = λ z. h .no-end (⊎-elim (λ x. inl (x ∙ sym (z .0))) (λ x. inr (x ∙ sym (z .1))) (e .ends));
-        q = h .lies .q;
-        x = h .lies .q * pointOf p (h .b) .column;
-        y = h .lies .q * pointOf p (h .b) .row;
-        q≥1 = h .lies .q≥1;
-        on-line = h .lies .on;
-        on-line′ = on-end p (h .lies .q) (e .ends);
-        elsewhere = λ b x y i. let z = one-node (end-chained (h .line) x) (h .chained) (is-one (h .lies .q≥1) i (record { in-column = refl; in-row = refl })) in h .no-end (⊎-elim (λ w. inl (sym z ∙ w)) (λ w. inr (sym z ∙ w)) x);
+        clash = at-end (e .ends);
       }
 
   pub touching↔clash : Touching t p ↔ LinesClash t p
-  touching↔clash = (⊎-elim touch→clash (λ h. touch→clash (lies→touch h)), λ h. inl (clash→touch h))
+  touching↔clash = (⊎-elim touch→clash lies→clash, λ h. inl (clash→touch h))

@@ -20,6 +20,7 @@ use Rattle.table.proofs.Lists.{or-T, member-cons}
 use Rattle.table.proofs.Accepted.{refusal-none}
 use Rattle.verdict.specs.Lines.{Chained, pointOf, Line}
 use Rattle.verdict.specs.Conditions.{SamePoint, NotLower, Touching, OutOfOrder}
+use Rattle.verdict.specs.Steps.{Turned}
 use Rattle.verdict.specs.Verdict.{FirstOf, conditions, Verdict}
 use Rattle.verdict.proofs.Ends.{ends-differ, child-chained}
 use Rattle.verdict.proofs.Clashes.{LinesClash, one-node, touching↔clash}
@@ -128,10 +129,6 @@ linesClash-decides t p ok apart = same-meaning (
   where
     ends-apart : {k c : ℕ} {s : Side} → Line t k s c → pointOf p k ≢ pointOf p c
     ends-apart l e = ends-differ t ok l (one-node t p ok apart (l .chained) (child-chained t ok l) e)
-
--- The node k has two children, and these are its lines.
-abbrev Turned : List ℕ → List ℕ → ℕ → Type 0
-Turned t p k = (leftOf t k ≢ 0) × ((rightOf t k ≢ 0) × (T (ltZ (cross (pointOf p k) (pointOf p (leftOf t k)) (pointOf p (rightOf t k))) (pos 0)) → ⊥))
 
 outOfOrder-decides : (t p : List ℕ) → Decides (outOfOrder t p) (OutOfOrder t p)
 unfolding outOfOrder

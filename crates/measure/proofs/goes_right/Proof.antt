@@ -1,5 +1,4 @@
 -- `measure::goes_right` meets its contract.
-use mathlib.Core.Path.{_≡_, refl}
 use Rattle.measure.proofs.goes_right.Statement.{statement}
 use Rattle.measure.proofs.goes_right.Tie as tie
 

@@ -1,18 +1,14 @@
 -- Measuring meets its contracts. The measures: the size of the subtree, three times, and one more for each call on the way to its spine.
 -- The loop's invariant is `Measuring` of Walks. Rests on Walks.
-use mathlib.Core.Path.{_≡_, refl, sym, ap, subst, _∙_}
-use mathlib.Core.Bool.{true, false}
-use mathlib.Core.Logic.{inl, inr}
+use mathlib.Core.Path.{ap, _∙_}
+use mathlib.Core.Logic.{inr}
 use Prim.Native.Nat.{ℕ, _+_, _*_, _<_}
 use native.Mathlib.Omega.{arith}
-use lib.ListN.{length, length-set}
+use lib.ListN.{length-set}
 use borrow.Fn.Kinds.{In}
 use borrow.Fn.PlainCycle.{Measures, is, falls, and}
-use Rattle.table.specs.Table.{left, right}
 use Rattle.table.specs.Tree.{size, treeAt}
-use Rattle.layout.specs.Spine.{opposite, switch}
 use Rattle.measure.specs.Forked.{sideOf}
-use Rattle.measure.specs.Measured.{Measured}
 use Rattle.measure.proofs.Forks.{named-within}
 use Rattle.measure.proofs.Spines.{chained}
 use Rattle.measure.proofs.Walks.{Measuring, start, measured-none, measured-small, role-small, size-inside, step, gap-small, measured}

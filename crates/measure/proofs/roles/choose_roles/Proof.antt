@@ -1,10 +1,9 @@
 -- `measure::roles::choose_roles` meets its contract. The loop's invariant: keeping the roles from here on gives what keeping all of them does.
 -- The measure is the size of the subtree that the walk is at. Rests on Spines.
-use mathlib.Core.Path.{_≡_, sym, ap, _∙_}
-use mathlib.Core.Logic.{inl, inr}
-use Prim.Native.Nat.{ℕ}
+use mathlib.Core.Path.{_≡_, sym, _∙_}
+use mathlib.Core.Logic.{inr}
 use native.Mathlib.Omega.{arith}
-use lib.ListN.{length, set, length-set}
+use lib.ListN.{length, length-set}
 use Rattle.table.specs.Tree.{size, treeAt}
 use Rattle.layout.specs.Spine.{opposite, switch}
 use Rattle.layout.specs.Held.{spineOn}
