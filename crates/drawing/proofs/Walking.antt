@@ -31,7 +31,7 @@ unfolding plug
 count-plug i k left S R = count-node i k S R
 count-plug i k right S R = omega (arith, count-node i k R S)
 
-size-none : (t : List ℕ) → size (treeAt t 0) ≡ 0
+pub size-none : (t : List ℕ) → size (treeAt t 0) ≡ 0
 unfolding size
 size-none t = ap size (tree-none t)
 

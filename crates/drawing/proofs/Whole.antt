@@ -27,25 +27,22 @@ use Rattle.drawing.specs.Answer.{store, emptyPlan, planOf, drawnOf, plac
 use Rattle.drawing.specs.Placing.{Given, Hanging, Hung}
 use Rattle.drawing.proofs.Answered.{accepted, refused}
 
-module _ (t : List ℕ) (ok : fault t ≡ 0) where
+module _ (t : List ℕ) (ok : fault t ≡ 0) (k : ℕ) (e : k ≡ rootOf t) where
   few-nodes : length (chain t) ≤ 4096
   few-nodes = omega (arith, chain-length t ok, records-bounds t ok)
 
-  -- Nodes, width and height are 16-bit numbers.
-  pub small-plan : (length (chain t) ≤ 4096) × ((widthOn left (tree t) ≤ 37) × (heightOn left (tree t) ≤ 4096))
-  small-plan =
-      (few-nodes, (width-small left (tree t) (omega (arith, size-chain t ok, few-nodes)), omega (arith, height-size left (tree t), size-chain t ok, few-nodes)))
+  few-below : size (treeAt t k) ≤ 4096
+  few-below = omega (arith, ap (λ (n : ℕ). size (treeAt t n)) e, size-chain t ok, few-nodes)
 
-  pub hanging-root : (roles gaps : List ℕ) (k : ℕ) → k ≡ rootOf t → Chained t (rootOf t) → Prepared roles gaps left (treeAt t k) → Hanging t roles gaps left k 0 0 0 × (0 < k)
-  hanging-root roles gaps k e c p = (
-    record {
-      named = inr (rw e c);
-      prepared = p;
-      columns = omega (arith, small-plan .1 .0, ap (λ (n : ℕ). widthOn left (treeAt t n)) e);
-      rows = omega (arith, small-plan .1 .1, ap (λ (n : ℕ). heightOn left (treeAt t n)) e);
-    },
+  pub hanging-root : (roles gaps : List ℕ) → Chained t (rootOf t) → Prepared roles gaps left (treeAt t k) → Hanging t roles gaps left k 0 0 0 × (0 < k)
+  hanging-root roles gaps c p = (
+    record { named = inr (rw e c); prepared = p; columns = omega (arith, width-small left (treeAt t k) few-below); rows = omega (arith, height-size left (treeAt t k), few-below) },
     omega (arith, chain-within t ok (rootOf t) c),
   )
+
+  -- Nodes, width and height are 16-bit numbers.
+  pub small-plan : (p p′ : List ℕ) (n w h : ℕ) → n ≡ length (chain t) → w ≡ widthOn left (treeAt t k) → Hung t left k 0 0 p h p′ → (n ≤ 4096) × ((w ≤ 37) × (h ≤ 4096))
+  small-plan p p′ n w h f g d = (omega (arith, few-nodes), (omega (arith, width-small left (treeAt t k) few-below), omega (arith, d .lowest, height-size left (treeAt t k), few-below)))
 
 -- The plan and the placements of what is drawn from the root on.
 pub plan-drawn : (t p p′ : List ℕ) (k n w h : ℕ) → k ≡ rootOf t → n ≡ length (chain t) → w ≡ widthOn left (treeAt t k) → Hung t left k 0 0 p h p′ →

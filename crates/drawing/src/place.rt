@@ -163,18 +163,8 @@ fn at_switch(
 {
     set_point(placements, w.at, inwards(w.right, w.edge, 1), w.row);
     let row = w.row + 1;
-    let under = draw_hung(table, sizes, roles, gaps, placements, w, fork.hung, 1, row);
-    let below = draw_hung(
-        table,
-        sizes,
-        roles,
-        gaps,
-        placements,
-        w,
-        w.pending,
-        1,
-        under,
-    );
+    let foot = draw_hung(table, sizes, roles, gaps, placements, w, fork.hung, 1, row);
+    let below = draw_hung(table, sizes, roles, gaps, placements, w, w.pending, 1, foot);
     let lowest = below - 1;
     let edge = inwards(w.right, w.edge, w.gap + 2);
     Walk {

@@ -1,18 +1,24 @@
 -- `plan_of` meets its contract: what is drawn from the root on is the whole drawing.
-use mathlib.Core.Path.{refl, _∙_, ap}
-use Prim.Native.Nat.{ℕ}
+use mathlib.Core.Path.{refl}
+use Prim.Native.Nat.{_≤_}
 use native.Mathlib.Omega.{arith}
 use borrow.Author.Needs.{needs}
-use Rattle.table.specs.Table.{left}
-use Rattle.table.specs.Tree.{treeAt}
 use Rattle.table.proofs.Accepted.{records-bounds}
-use Rattle.layout.specs.Held.{heightOn, widthOn}
 use Rattle.drawing.proofs.Whole.{small-plan, hanging-root, plan-drawn, chained-root}
 use Rattle.drawing.proofs.plan_of.Statement.{statement}
 use Rattle.drawing.proofs.plan_of.Tie as tie
 
+small : (c : tie.After-slice-known2) → (c .before .before .before .before .before .before .before .before .before .before .before .before .before .before .before .args .nodes ≤ 4096) × ((c .before .before .before .before .before .before .before .before .prepare .result ≤ 37) × (c .before .before .draw-left .result ≤ 4096))
+small c =
+    let measured = c .before .before .before .before .before .before .before .before in
+    let first = measured .before .before .before in
+    let s = first .before .before .before .before in
+    small-plan _ (s .pre .0) _ (first .left .ensures .0) _ _ _ _ _ (s .pre .1 .1 .1 .1) (measured .prepare .ensures .wide) (c .before .before .draw-left .ensures)
+
 left-requires : tie.Need-left-requires
-left-requires c κs = records-bounds _ (c .before .before .before .pre .0) .0
+left-requires c κs =
+    let s = c .before .before .before in
+    records-bounds _ (s .pre .0) .0
 
 slice-aggregate-prepare : tie.Need-slice-aggregate-prepare
 slice-aggregate-prepare c = search needs
@@ -21,7 +27,9 @@ slice-aggregate-prepare-2 : tie.Need-slice-aggregate-prepare-2
 slice-aggregate-prepare-2 c = search needs
 
 prepare-requires : tie.Need-prepare-requires
-prepare-requires c κs = (c .before .before .before .before .before .before .pre .0, (chained-root _ _ (c .before .before .left .ensures .0) (c .before .before .before .before .before .before .pre .1 .0), (c .before .before .before .before .before .before .pre .1 .1 .0, (refl, refl))))
+prepare-requires c κs =
+    let s = c .before .before .before .before .before .before in
+    (s .pre .0, (chained-root _ _ (c .before .before .left .ensures .0) (s .pre .1 .0), (s .pre .1 .1 .0, (refl, refl))))
 
 slice-aggregate-draw-left : tie.Need-slice-aggregate-draw-left
 slice-aggregate-draw-left c = search needs
@@ -30,25 +38,32 @@ slice-aggregate-draw-left-2 : tie.Need-slice-aggregate-draw-left-2
 slice-aggregate-draw-left-2 c = search needs
 
 draw-left-requires : tie.Need-draw-left-requires
-draw-left-requires c κs = (
-  record { sound = c .before .before .before .before .before .before .before .before .before .before .before .before .pre .0; sized = c .before .before .before .before .before .before .before .before .before .before .before .before .pre .1 .1 .0; long-roles = c .before .before .before .before .before .prepare .kept .1 .1 .0; long-gaps = c .before .before .before .before .before .prepare .kept .1 .1 .1 .0; enough = c .before .before .before .before .before .before .before .before .before .before .before .before .pre .1 .1 .1 .0 },
-  hanging-root _ (c .before .before .before .before .before .before .before .before .before .before .before .before .pre .0) _ _ _ (c .before .before .before .before .before .before .before .before .left .ensures .0) (c .before .before .before .before .before .before .before .before .before .before .before .before .pre .1 .0) (c .before .before .before .before .before .prepare .ensures .prepared),
-)
+draw-left-requires c κs =
+    let measured = c .before .before .before .before .before in
+    let first = measured .before .before .before in
+    let s = first .before .before .before .before in (
+      record { sound = s .pre .0; sized = s .pre .1 .1 .0; long-roles = measured .prepare .kept .1 .1 .0; long-gaps = measured .prepare .kept .1 .1 .1 .0; enough = s .pre .1 .1 .1 .0 },
+      hanging-root _ (s .pre .0) _ (first .left .ensures .0) _ _ (s .pre .1 .0) (measured .prepare .ensures .prepared),
+    )
 
 cast-t20 : tie.Need-cast-t20
-cast-t20 c = omega (arith, small-plan _ (c .before .before .before .before .before .before .before .before .before .before .before .before .before .before .before .pre .0) .0, c .before .before .before .before .before .before .before .before .before .before .before .before .before .before .before .pre .1 .1 .1 .1)
+cast-t20 c = omega (arith, small c)
 
 cast-t21 : tie.Need-cast-t21
-cast-t21 c = omega (arith, small-plan _ (c .before .before .before .before .before .before .before .before .before .before .before .before .before .before .before .pre .0) .1 .0, c .before .before .before .before .before .before .before .before .prepare .ensures .wide, ap (λ (n : ℕ). widthOn left (treeAt (c .before .before .before .before .before .before .before .before .before .before .before .before .before .before .before .args .table .now) n)) (c .before .before .before .before .before .before .before .before .before .before .before .left .ensures .0))
+cast-t21 c = omega (arith, small c)
 
 cast-t22 : tie.Need-cast-t22
-cast-t22 c = omega (arith, small-plan _ (c .before .before .before .before .before .before .before .before .before .before .before .before .before .before .before .pre .0) .1 .1, c .before .before .draw-left .ensures .lowest, ap (λ (n : ℕ). heightOn left (treeAt (c .before .before .before .before .before .before .before .before .before .before .before .before .before .before .before .args .table .now) n)) (c .before .before .before .before .before .before .before .before .before .before .before .left .ensures .0))
+cast-t22 c = omega (arith, small c)
 
 same-length : tie.Need-same-length
 same-length c = search needs
 
 returns : tie.Need-returns
-returns c = plan-drawn _ _ _ _ _ _ _ (c .before .before .before .before .before .before .before .before .before .before .before .left .ensures .0) (c .before .before .before .before .before .before .before .before .before .before .before .before .before .before .before .pre .1 .1 .1 .1) (c .before .before .before .before .before .before .before .before .prepare .ensures .wide) (c .before .before .draw-left .ensures)
+returns c =
+    let measured = c .before .before .before .before .before .before .before .before in
+    let first = measured .before .before .before in
+    let s = first .before .before .before .before in
+    plan-drawn _ _ _ _ _ _ _ (first .left .ensures .0) (s .pre .1 .1 .1 .1) (measured .prepare .ensures .wide) (c .before .before .draw-left .ensures)
 
 pub plan-of-spec : {M : Type 1} → statement M
 plan-of-spec =

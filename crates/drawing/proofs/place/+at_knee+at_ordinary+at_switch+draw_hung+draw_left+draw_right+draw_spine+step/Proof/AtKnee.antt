@@ -11,26 +11,32 @@ use Rattle.drawing.proofs.place.+at_knee+at_ordinary+at_switch+draw_hun
 module _ (t : ℕ) where
   set-point-requires : lts.Need-set-point-requires (at-knee-claims t) (at-knee-at t) reads.Post
   set-point-requires c κs =
-      let f = edge-knee _ _ _ _ _ _ _ (c .before .before .before .before .before .before .pre .1 .1 .1) (c .before .before .before .before .before .before .pre .1 .1 .0) in
-      (entry-within _ _ _ _ _ (c .before .before .before .before .before .before .pre .1 .0) _ (c .before .before .before .before .before .before .pre .1 .1 .0 .named), (f .0, omega arith))
+      let s = c .before .before .before .before .before .before in
+      let f = edge-knee _ _ _ _ _ _ _ (s .pre .1 .1 .1) (s .pre .1 .1 .0) in
+      (entry-within _ _ _ _ _ (s .pre .1 .0) _ (s .pre .1 .1 .0 .named), (f .0, omega arith))
 
   greater-requires : lts.Need-greater-requires (at-knee-claims t) (at-knee-at t) reads.Post
   greater-requires c κs = tt
 
   add-row : lts.Need-add-row (at-knee-claims t) (at-knee-at t) reads.Post
-  add-row c = omega (arith, edge-knee _ _ _ _ _ _ _ (c .before .before .before .before .before .before .before .before .before .before .pre .1 .1 .1) (c .before .before .before .before .before .before .before .before .before .before .pre .1 .1 .0) .1, c .greater .ensures)
+  add-row c =
+      let s = c .before .before .before .before .before .before .before .before .before .before in
+      omega (arith, edge-knee _ _ _ _ _ _ _ (s .pre .1 .1 .1) (s .pre .1 .1 .0) .1, c .greater .ensures)
 
   is-far-requires : lts.Need-is-far-requires (at-knee-claims t) (at-knee-at t) reads.Post
   is-far-requires c κs = tt
 
   draw-hung-requires : lts.Need-draw-hung-requires (at-knee-claims t) (at-knee-at t) reads.Post
-  draw-hung-requires c κs = (
-    omega (arith, c .before .before .before .before .before .before .before .before .before .before .before .before .before .pre .0, c .before .before .before .before .before .before .before .before .before .before .before .before .before .pre .1 .1 .1 .sizes),
-    (
-      given-kept _ _ _ _ _ _ (c .before .before .before .before .before .before .set-point .kept .0) (c .before .before .before .before .before .before .before .before .before .before .before .before .before .pre .1 .0),
-      hanging-as _ _ _ _ _ _ _ _ _ (ap (λ (n : ℕ). n + 1) (c .before .before .before .greater .ensures)) (hanging-far _ _ _ _ _ _ _ (c .before .before .before .before .before .before .before .before .before .before .before .before .before .pre .1 .1 .1) (sym (c .before .before .is-far .ensures) ∙ c .before .if1 .taken) (c .before .before .before .before .before .before .before .before .before .before .before .before .before .pre .1 .1 .0)),
-    ),
-  )
+  draw-hung-requires c κs =
+      let most = c .before .before .before in
+      let point = most .before .before .before in
+      let s = point .before .before .before .before .before .before .before in (
+        omega (arith, s .pre .0, s .pre .1 .1 .1 .sizes),
+        (
+          given-kept _ _ _ _ _ _ (point .set-point .kept .0) (s .pre .1 .0),
+          hanging-as _ _ _ _ _ _ _ _ _ (ap (λ (n : ℕ). n + 1) (most .greater .ensures)) (hanging-far _ _ _ _ _ _ _ (s .pre .1 .1 .1) (sym (c .before .before .is-far .ensures) ∙ c .before .if1 .taken) (s .pre .1 .1 .0)),
+        ),
+      )
 
   sub-onward : lts.Need-sub-onward (at-knee-claims t) (at-knee-at t) reads.Post
   sub-onward c = omega (arith, c .before .before .draw-hung .ensures .lowest)
@@ -43,7 +49,13 @@ module _ (t : ℕ) where
 
   returns : lts.Need-returns (at-knee-claims t) (at-knee-at t) reads.Post
   returns c =
-      left-far _ _ _ _ _ _ _ (c .before .before .before .before .before .before .before .before .before .before .before .before .before .before .before .before .before .pre .1 .1 .1) _ _ _ _ _ _ (c .before .before .before .before .before .before .before .greater .ensures) (c .before .before .before .before .before .before .before .before .before .before .set-point .ensures) (c .before .before .before .draw-hung .ensures) (c .onward .ensures) (sym (c .before .before .before .before .before .before .is-far .ensures) ∙ c .before .before .before .before .before .if1 .taken) (c .before .before .before .before .before .before .before .before .before .before .before .before .before .before .before .before .before .pre .1 .1 .0)
+      let hung = c .before .before .before in
+      let test1 = hung .before .before in
+      let far = test1 .before in
+      let most = far .before in
+      let point = most .before .before .before in
+      let s = point .before .before .before .before .before .before .before in
+      left-far _ _ _ _ _ _ _ (s .pre .1 .1 .1) _ _ _ _ _ _ (most .greater .ensures) (point .set-point .ensures) (hung .draw-hung .ensures) (c .onward .ensures) (sym (far .is-far .ensures) ∙ test1 .if1 .taken) (s .pre .1 .1 .0)
 
   onward-requires-2 : lts.Need-onward-requires-2 (at-knee-claims t) (at-knee-at t) reads.Post
   onward-requires-2 c κs = tt
@@ -53,7 +65,10 @@ module _ (t : ℕ) where
 
   returns-2 : lts.Need-returns-2 (at-knee-claims t) (at-knee-at t) reads.Post
   returns-2 c =
-      left-near _ _ _ _ _ _ _ (c .before .before .before .before .before .before .before .before .before .before .before .before .before .pre .1 .1 .1) _ _ _ _ (c .before .before .before .greater .ensures) (c .before .before .before .before .before .before .set-point .ensures) (c .onward2 .ensures) (sym (c .before .before .is-far .ensures) ∙ c .before .if1 .left) (c .before .before .before .before .before .before .before .before .before .before .before .before .before .pre .1 .1 .0)
+      let most = c .before .before .before in
+      let point = most .before .before .before in
+      let s = point .before .before .before .before .before .before .before in
+      left-near _ _ _ _ _ _ _ (s .pre .1 .1 .1) _ _ _ _ (most .greater .ensures) (point .set-point .ensures) (c .onward2 .ensures) (sym (c .before .before .is-far .ensures) ∙ c .before .if1 .left) (s .pre .1 .1 .0)
 
 pub at-knee-closed : {M : Type 1} (t : ℕ) → lts.Closed (at-knee-claims t) (at-knee-at t) reads.Post M
 at-knee-closed t =

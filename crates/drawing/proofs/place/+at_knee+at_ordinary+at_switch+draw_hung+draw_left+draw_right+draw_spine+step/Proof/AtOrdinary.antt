@@ -9,17 +9,25 @@ use Rattle.drawing.proofs.place.+at_knee+at_ordinary+at_switch+draw_hun
 
 module _ (t : ℕ) where
   inwards-requires : lts.Need-inwards-requires (at-ordinary-claims t) (at-ordinary-at t) reads.Post
-  inwards-requires c κs = column-ordinary _ _ _ _ _ _ _ (c .before .before .before .before .before .before .pre .1 .1 .1) (c .before .before .before .before .before .before .pre .1 .1 .0)
+  inwards-requires c κs =
+      let s = c .before .before .before .before .before .before in
+      column-ordinary _ _ _ _ _ _ _ (s .pre .1 .1 .1) (s .pre .1 .1 .0)
 
   set-point-requires : lts.Need-set-point-requires (at-ordinary-claims t) (at-ordinary-at t) reads.Post
-  set-point-requires c κs = (entry-within _ _ _ _ _ (c .before .before .before .before .before .before .before .pre .1 .0) _ (c .before .before .before .before .before .before .before .pre .1 .1 .0 .named), (c .inwards .ensures .1, omega (arith, rows-at-ordinary _ _ _ _ _ _ _ (c .before .before .before .before .before .before .before .pre .1 .1 .1) (c .before .before .before .before .before .before .before .pre .1 .1 .0))))
+  set-point-requires c κs =
+      let s = c .before .before .before .before .before .before .before in
+      (entry-within _ _ _ _ _ (s .pre .1 .0) _ (s .pre .1 .1 .0 .named), (c .inwards .ensures .1, omega (arith, rows-at-ordinary _ _ _ _ _ _ _ (s .pre .1 .1 .1) (s .pre .1 .1 .0))))
 
   add-row : lts.Need-add-row (at-ordinary-claims t) (at-ordinary-at t) reads.Post
-  add-row c = omega (arith, rows-at-ordinary _ _ _ _ _ _ _ (c .before .before .before .before .before .before .before .before .before .before .before .pre .1 .1 .1) (c .before .before .before .before .before .before .before .before .before .before .before .pre .1 .1 .0))
+  add-row c =
+      let s = c .before .before .before .before .before .before .before .before .before .before .before in
+      omega (arith, rows-at-ordinary _ _ _ _ _ _ _ (s .pre .1 .1 .1) (s .pre .1 .1 .0))
 
   draw-hung-requires : lts.Need-draw-hung-requires (at-ordinary-claims t) (at-ordinary-at t) reads.Post
   draw-hung-requires c κs =
-      (omega (arith, c .before .before .before .before .before .before .before .before .before .before .before .before .pre .0, c .before .before .before .before .before .before .before .before .before .before .before .before .pre .1 .1 .1 .sizes), (given-kept _ _ _ _ _ _ (c .before .before .before .before .set-point .kept .0) (c .before .before .before .before .before .before .before .before .before .before .before .before .pre .1 .0), hanging-ordinary _ _ _ _ _ _ _ (c .before .before .before .before .before .before .before .before .before .before .before .before .pre .1 .1 .1) (c .before .before .before .before .before .before .before .before .before .before .before .before .pre .1 .1 .0)))
+      let point = c .before .before .before .before in
+      let s = point .before .before .before .before .before .before .before .before in
+      (omega (arith, s .pre .0, s .pre .1 .1 .1 .sizes), (given-kept _ _ _ _ _ _ (point .set-point .kept .0) (s .pre .1 .0), hanging-ordinary _ _ _ _ _ _ _ (s .pre .1 .1 .1) (s .pre .1 .1 .0)))
 
   sub-lowest : lts.Need-sub-lowest (at-ordinary-claims t) (at-ordinary-at t) reads.Post
   sub-lowest c = omega (arith, c .before .before .draw-hung .ensures .lowest)
@@ -35,7 +43,11 @@ module _ (t : ℕ) where
 
   returns : lts.Need-returns (at-ordinary-claims t) (at-ordinary-at t) reads.Post
   returns c =
-      left-ordinary _ _ _ _ _ _ _ (c .before .before .before .before .before .before .before .before .before .before .before .before .before .before .before .before .before .pre .1 .1 .1) _ _ _ _ _ _ _ (c .before .before .before .before .before .before .before .before .before .before .inwards .ensures .0) (c .before .before .before .before .before .before .before .before .before .set-point .ensures) (c .before .before .before .before .draw-hung .ensures) (c .before .greater .ensures) (c .onward .ensures) (c .before .before .before .before .before .before .before .before .before .before .before .before .before .before .before .before .before .pre .1 .1 .0)
+      let hung = c .before .before .before .before in
+      let point = hung .before .before .before .before .before in
+      let in1 = point .before in
+      let s = in1 .before .before .before .before .before .before .before in
+      left-ordinary _ _ _ _ _ _ _ (s .pre .1 .1 .1) _ _ _ _ _ _ _ (in1 .inwards .ensures .0) (point .set-point .ensures) (hung .draw-hung .ensures) (c .before .greater .ensures) (c .onward .ensures) (s .pre .1 .1 .0)
 
 pub at-ordinary-closed : {M : Type 1} (t : ℕ) → lts.Closed (at-ordinary-claims t) (at-ordinary-at t) reads.Post M
 at-ordinary-closed t =

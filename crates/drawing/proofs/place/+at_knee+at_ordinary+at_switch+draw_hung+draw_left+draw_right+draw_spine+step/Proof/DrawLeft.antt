@@ -12,23 +12,32 @@ use Rattle.drawing.proofs.place.+at_knee+at_ordinary+at_switch+draw_hun
 
 module _ (t : ℕ) where
   mul-gap : lts.Need-mul-gap (draw-left-claims t) (draw-left-at t) reads.Post
-  mul-gap c = omega (arith, named-within _ _ _ _ _ (c .before .before .before .before .before .pre .1 .0) _ (c .before .before .before .before .before .pre .1 .1 .0 .named))
+  mul-gap c =
+      let s = c .before .before .before .before .before in
+      omega (arith, named-within _ _ _ _ _ (s .pre .1 .0) _ (s .pre .1 .1 .0 .named))
 
   shared-slice-read-gap : lts.Need-shared-slice-read-gap (draw-left-claims t) (draw-left-at t) reads.Post
-  shared-slice-read-gap c = omega (arith, named-within _ _ _ _ _ (c .before .before .before .before .before .before .pre .1 .0) _ (c .before .before .before .before .before .before .pre .1 .1 .0 .named), c .before .before .before .before .before .before .pre .1 .0 .long-gaps)
+  shared-slice-read-gap c =
+      let s = c .before .before .before .before .before .before in
+      omega (arith, named-within _ _ _ _ _ (s .pre .1 .0) _ (s .pre .1 .1 .0 .named), s .pre .1 .0 .long-gaps)
 
   cast-gap : lts.Need-cast-gap (draw-left-claims t) (draw-left-at t) reads.Post
-  cast-gap c = omega (arith, c .shared-slice-known5 .given (c .before .before .before .before .before .before .args .root))
+  cast-gap c =
+      let s = c .before .before .before .before .before .before in
+      omega (arith, c .shared-slice-known5 .given (s .args .root))
 
   draw-spine-requires : lts.Need-draw-spine-requires (draw-left-claims t) (draw-left-at t) reads.Post
   draw-spine-requires c κs =
-      (omega (arith, c .before .before .before .before .before .before .before .pre .0), (c .before .before .before .before .before .before .before .pre .1 .0, (going-start _ _ _ (c .before .before .before .before .before .before .before .pre .1 .0 .sound) false _ _ _ (c .before .before .before .before .before .before .before .pre .1 .1 .0) (c .before .before .before .before .before .before .before .pre .1 .1 .1), (c .before .before .before .before .before .before .before .pre .1 .1 .1, refl))))
+      let s = c .before .before .before .before .before .before .before in
+      (omega (arith, s .pre .0), (s .pre .1 .0, (going-start _ _ _ (s .pre .1 .0 .sound) false _ _ _ (s .pre .1 .1 .0) (s .pre .1 .1 .1), (s .pre .1 .1 .1, refl))))
 
   same-length : lts.Need-same-length (draw-left-claims t) (draw-left-at t) reads.Post
   same-length c = search needs
 
   returns : lts.Need-returns (draw-left-claims t) (draw-left-at t) reads.Post
-  returns c = hung-start _ _ _ (c .before .before .before .before .before .before .before .before .before .before .pre .1 .0 .sound) false _ _ _ (c .before .before .before .before .before .before .before .before .before .before .pre .1 .1 .0) (c .before .before .before .before .before .before .before .before .before .before .pre .1 .1 .1) _ _ _ (c .before .before .draw-spine .ensures)
+  returns c =
+      let s = c .before .before .before .before .before .before .before .before .before .before in
+      hung-start _ _ _ (s .pre .1 .0 .sound) false _ _ _ (s .pre .1 .1 .0) (s .pre .1 .1 .1) _ _ _ (c .before .before .draw-spine .ensures)
 
 pub draw-left-closed : {M : Type 1} (t : ℕ) → lts.Closed (draw-left-claims t) (draw-left-at t) reads.Post M
 draw-left-closed t =
