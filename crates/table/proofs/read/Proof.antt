@@ -20,7 +20,7 @@ refused-requires c κs = search needs
 returns : tie.Need-returns
 returns c = rw (c .refused .ensures) (refused-form _ _ _ _ _ (c .before .before .shape .ensures) (c .before .if1 .taken))
 
--- Past the first test the table is well formed, past the second its chain is listed, past the third its links are sound, past the fourth there is a tree.
+-- Past the first test the table is well formed, past the second its chain is listed, past the third its links are sound.
 formed : (c : tie.Else1) → Shaped (c .before .before .before .before .before .args .table .now)
 formed c = shaped _ (sym (c .before .shape .ensures) ∙ c .if1 .left)
 
