@@ -1,0 +1,2 @@
+// The text of a table's drawing, as the program prints it (specs/Text).
+mod fields;
