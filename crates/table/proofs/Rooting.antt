@@ -1,0 +1,105 @@
+-- Cause 5 from the tests of the code. Rests on Lists, Chain and Causes.
+use mathlib.Core.Path.{_≡_, refl, sym, ap, _∙_}
+use mathlib.Core.Bool.{Bool, true, false, not, cond, _&&_, _||_, or-assoc, or-true, and-false, Bool·not-not}
+use mathlib.Core.List.{List, []}
+use Prim.Native.Nat.{ℕ, zero, suc, _≤_, _<_}
+use native.Mathlib.Omega.{arith}
+use lib.Dec.{T, eqb}
+use lib.ListN.{length, getD, set, length-set}
+use lib.Seq.{getD-set-same}
+use borrow.Author.Tests.{eq-eqb, ne-eqb, eqb-true, not-false}
+use Rattle.table.specs.Lists.{member}
+use Rattle.table.specs.Table.{records, nextOf, rootOf, follow, chain}
+use Rattle.table.specs.Refusal.{badChain, badLinks, isEmpty, named, badTree, fault}
+use Rattle.table.specs.Steps.{Shaped, Marked, Rooted, Filled, Grown, notOnce, notReached}
+use Rattle.table.proofs.Lists.{T-true, T-false, or-false}
+use Rattle.table.proofs.Chain.{follow-none}
+use Rattle.table.proofs.Causes.{sound-within}
+
+-- With a root, the tree is not empty.
+pub tree-tests : (t : List ℕ) → (rootOf t ≡ 0 → ⊥) → badTree t ≡ not (member (rootOf t) (chain t)) || ((not (eqb (named t (rootOf t)) 0) || notOnce t) || notReached t)
+unfolding badTree isEmpty notOnce notReached
+tree-tests t h =
+    rw (ne-eqb (rootOf t) 0 h, and-false) (ap (λ (b : Bool). not (member (rootOf t) (chain t)) || b) (sym (or-assoc (not (eqb (named t (rootOf t)) 0)) (notOnce t) (notReached t))))
+
+starts : (n : ℕ) (t : List ℕ) (k : ℕ) → 0 < n → length (follow n t k) ≡ 0 → k ≡ 0
+unfolding follow
+starts zero t k h e = absurd (omega arith)
+starts (suc n) t zero h e = refl
+starts (suc n) t (suc k) h e = absurd (omega arith)
+
+-- Without one, it is empty if the chain is.
+pub tree-empty : (t : List ℕ) → Shaped t → rootOf t ≡ 0 → length (chain t) ≡ 0 → (badTree t ≡ false) × (chain t ≡ [])
+unfolding badTree isEmpty chain
+tree-empty t s e l =
+    let n = starts (records t) t (nextOf t 0) (s .head) l in
+    (rw (eq-eqb (nextOf t 0) 0 n, eq-eqb (rootOf t) 0 e), rw n (follow-none (records t) t))
+
+pub tree-headless : (t : List ℕ) → badChain t ≡ false → rootOf t ≡ 0 → (length (chain t) ≡ 0 → ⊥) → badTree t ≡ true
+unfolding badTree isEmpty
+tree-headless t b e l =
+    rw (ne-eqb (nextOf t 0) 0 (λ n. l (ended n)), T-false (member (rootOf t) (chain t)) .0 (λ m. omega (arith, sound-within t b (rootOf t) m)))
+  where
+    ended : nextOf t 0 ≡ 0 → length (chain t) ≡ 0
+    ended n = unfold chain in (rw (n, follow-none))
+
+-- Causes 1 to 5 do not hold.
+pub accepted : (t : List ℕ) → Rooted t → notReached t ≡ false → fault t ≡ 0
+unfolding fault
+accepted t r e =
+    rw (
+      r .shaped .whole,
+      r .shaped .zeros,
+      r .sound,
+      r .linked,
+      tree-tests t (λ z. omega (arith, sound-within t (r .sound) (rootOf t) (r .root))),
+      T-true (member (rootOf t) (chain t)) .0 (r .root),
+      eq-eqb (named t (rootOf t)) 0 (r .unnamed),
+      r .once,
+      e,
+    )
+
+pub grown-bad : (t sizes : List ℕ) → badTree t ≡ true → Grown t 5 sizes
+grown-bad t sizes e = record { cause = rw e; filled = λ z. absurd (omega arith) }
+
+pub grown-good : (t sizes : List ℕ) → badTree t ≡ false → Filled t (chain t) sizes → Grown t 0 sizes
+grown-good t sizes e f = record { cause = rw e; filled = λ z. f }
+
+pub marked-by : (t mark : List ℕ) (k : ℕ) (r : Bool) → Marked t mark → r ≡ not (eqb (getD mark k 0) 0) → r ≡ member k (chain t)
+marked-by t mark k r m e = e ∙ rw (m .marks k) (go (member k (chain t)))
+  where
+    go : (b : Bool) → not (eqb (cond b 1 0) 0) ≡ b
+    go true = refl
+    go false = refl
+
+-- The sizes before they are filled.
+pub unfilled : (t sizes : List ℕ) → length sizes ≡ 4097 → Filled t [] (set sizes 0 0)
+unfolding member
+unfilled t sizes l = record { long = simp length-set l; sized = λ k h. absurd h; none = getD-set-same sizes 0 0 0 (omega arith) }
+
+-- With a root other than zero.
+module _ (t : List ℕ) (root : ℕ) (e : root ≡ rootOf t) (some : root ≡ 0 → ⊥) where
+  tests : badTree t ≡ not (member root (chain t)) || ((not (eqb (named t root) 0) || notOnce t) || notReached t)
+  tests = rw e (tree-tests t (λ z. some (e ∙ z)))
+
+  pub off-chain : member root (chain t) ≡ false → badTree t ≡ true
+  off-chain m = rw (tests, m)
+
+  pub ill-named : not (eqb (named t root) 0) || notOnce t ≡ true → badTree t ≡ true
+  ill-named n = rw (tests, n, or-true)
+
+  module _ (m : member root (chain t) ≡ true) (n : not (eqb (named t root) 0) || notOnce t ≡ false) where
+    pub reached-or-bad : (r : Bool) → r ≡ not (notReached t) → badTree t ≡ not r
+    reached-or-bad r d = rw (tests, m, n, d, Bool·not-not)
+
+    pub rooted : Shaped t → badChain t ≡ false → badLinks t ≡ false → Rooted t
+    rooted s c l =
+        let (u, o) = or-false (not (eqb (named t root) 0)) (notOnce t) .0 n in
+        record {
+          shaped = s;
+          sound = c;
+          linked = l;
+          root = rw (← e) (T-true (member root (chain t)) .1 m);
+          unnamed = rw (← e) (eqb-true (named t root) 0 (not-false _ u));
+          once = o;
+        }
