@@ -13,15 +13,6 @@ use Rattle.table.specs.Reading.{ReadOf}
 use Rattle.table.specs.Steps.{Shaped, Listed, Filled}
 use Rattle.table.proofs.Form.{form}
 
--- What the answer of a step says of its cause.
-pub holds : (b : Bool) (n r : ℕ) → r ≡ cond b (suc n) 0 → (r ≡ 0 → ⊥) → b ≡ true
-holds true n r e h = refl
-holds false n r e h = absurd (h e)
-
-pub fails : (b : Bool) (n r : ℕ) → r ≡ cond b (suc n) 0 → r ≡ 0 → b ≡ false
-fails true n r e h = absurd (omega arith)
-fails false n r e h = refl
-
 refused : (t : List ℕ) (places : ℕ) (r : Reading) (list sizes : List ℕ) → fault t ≡ r .refusal → (r .refusal ≡ 0 → ⊥) → ReadOf t places r list sizes
 unfolding refusal
 refused t places r list sizes e h = record { refusal = rw (e, ne-eqb (r .refusal) 0 h); accepted = λ z. absurd (h z) }

@@ -83,6 +83,6 @@ pub record Filled (t : List ℕ) (ks sizes : List ℕ) : Type 0 where
   pub none : getD sizes 0 0 ≡ 0
 
 -- What the tests of cause 5 answer.
-pub record Grown (t : List ℕ) (r : ℕ) (sizes : List ℕ) : Type 0 where
-  pub cause : r ≡ cond (badTree t) 5 0
-  pub filled : r ≡ 0 → Filled t (chain t) sizes
+pub record Grown (t : List ℕ) (r : Bool) (sizes : List ℕ) : Type 0 where
+  pub good : r ≡ not (badTree t)
+  pub filled : r ≡ true → Filled t (chain t) sizes

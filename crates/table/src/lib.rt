@@ -26,6 +26,15 @@ pub struct Reading {
     pub nodes: usize,
 }
 
+pub fn refused(cause: u16) -> Reading
+    ensures { λ r. ⌜ r ≡ record { refusal = cause; nodes = 0 } ⌝ }
+{
+    Reading {
+        refusal: cause,
+        nodes: 0,
+    }
+}
+
 // Causes 1 and 2.
 fn shape(table: &[u8]) -> u16
     ensures { λ r. ⌜ r ≡ cond (badLength (now (table .entry))) 1 (cond (badHead (now (table .entry))) 2 0) ⌝ }
@@ -49,8 +58,8 @@ fn shape(table: &[u8]) -> u16
     0
 }
 
-// Cause 5, after the others; where it does not hold, fills the sizes.
-fn grow(table: &[u8], chain: &[u16], nodes: usize, mark: &[u16], sizes: &mut [u16]) -> u16
+// Whether the records of the chain make a tree; then fills the sizes of its subtrees.
+fn grow(table: &[u8], chain: &[u16], nodes: usize, mark: &[u16], sizes: &mut [u16]) -> bool
     requires { ⌜ Listed (now table) nodes (now chain) ⌝ }
     requires { ⌜ Marked (now table) (now mark) ⌝ }
     requires { ⌜ badLinks (now table) ≡ false ⌝ }
@@ -60,21 +69,15 @@ fn grow(table: &[u8], chain: &[u16], nodes: usize, mark: &[u16], sizes: &mut [u1
     sizes[0] = 0;
     let root = left(table, 0);
     if root == 0 {
-        if nodes == 0 {
-            return 0;
-        }
-        return 5;
+        return nodes == 0;
     }
     if !marked(mark, root) {
-        return 5;
+        return false;
     }
     if misnamed(table, chain, nodes, root) {
-        return 5;
+        return false;
     }
-    if reaches(table, nodes, sizes) {
-        return 0;
-    }
-    5
+    reaches(table, nodes, sizes)
 }
 
 // Causes 1 to 6. Of an accepted table, chain lists the nodes and sizes has the size of the subtree at each.
@@ -84,10 +87,7 @@ pub fn read(table: &[u8], places: usize, chain: &mut [u16], sizes: &mut [u16]) -
 {
     let unfit = shape(table);
     if unfit != 0 {
-        return Reading {
-            refusal: unfit,
-            nodes: 0,
-        };
+        return refused(unfit);
     }
     let mut mark = [0u16; 4097];
     let walked = walk(table, chain, &mut mark);
@@ -96,22 +96,13 @@ pub fn read(table: &[u8], places: usize, chain: &mut [u16], sizes: &mut [u16]) -
     }
     let nodes = walked.nodes;
     if strays(table, chain, nodes, &mark) {
-        return Reading {
-            refusal: 4,
-            nodes: 0,
-        };
+        return refused(4);
     }
-    if grow(table, chain, nodes, &mark, sizes) != 0 {
-        return Reading {
-            refusal: 5,
-            nodes: 0,
-        };
+    if !grow(table, chain, nodes, &mark, sizes) {
+        return refused(5);
     }
     if places < 2 * (table.len() / 8) {
-        return Reading {
-            refusal: 6,
-            nodes: 0,
-        };
+        return refused(6);
     }
     Reading { refusal: 0, nodes }
 }

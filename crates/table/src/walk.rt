@@ -1,5 +1,6 @@
 // Cause 3: the walk along the chain.
 use crate::Reading;
+use crate::refused;
 use crate::words::next;
 ghost use mathlib.Core.Path.{_≡_};
 ghost use Prim.Native.Nat.{_<_};
@@ -18,16 +19,10 @@ pub fn walk(table: &[u8], chain: &mut [u16], mark: &mut [u16]) -> Reading
     let mut nodes = 0;
     while at != 0 {
         if records <= at {
-            return Reading {
-                refusal: 3,
-                nodes: 0,
-            };
+            return refused(3);
         }
         if mark[at] != 0 {
-            return Reading {
-                refusal: 3,
-                nodes: 0,
-            };
+            return refused(3);
         }
         mark[at] = 1;
         chain[nodes] = at as u16;
