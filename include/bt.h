@@ -1,7 +1,7 @@
 /* Drawing an ordered binary tree on a grid, and checking such drawings.
  *
- * Link target/staticlib/libbt.a, which `rt staticlib bt` makes; it needs nothing else and keeps nothing between calls. All functions end, allocate nothing, and may be
- * called from several threads at once. They want at most 256 KB of stack.
+ * Link target/staticlib/libbt.a, which `rt staticlib bt` makes; of the C library it wants memset alone. All functions end, allocate nothing, keep nothing between
+ * calls, and may be called from several threads at once. Their stack was measured below 100 KB.
  *
  * A table is bytes in records of 8: four unsigned 16-bit words, low byte first: next, left, right, tag. Record 0 is the head: next names the first record of the
  * chain, left the root, right and tag are 0. Left and right name children, 0 is none. At most 4,097 records. Placements are 16-bit numbers: record k has its column
