@@ -1,28 +1,48 @@
 -- Two segments clash exactly where the test `clashes` says so. With a common end they do where the other end of one lies on the other; with none, where they share a point.
 use mathlib.Core.Path.{_≡_, refl, ap, ap₂, sym, subst, _∙_}
-use mathlib.Core.Logic.{_↔_, _≢_, _⊎_, inl, inr, ⊎-elim, ⊎-swap, Ne·symm}
-use mathlib.Core.Bool.{Bool, true, false, _&&_}
+use mathlib.Core.Logic.{_↔_, _≢_, _⊎_, inl, inr, ⊎-elim, ⊎-map, ⊎-swap, Ne·symm, Iff·trans}
+use mathlib.Core.Bool.{Bool, true, cond, _&&_, _||_}
 use Prim.Native.Nat.{ℕ, _+_, _*_, _≤_, _<_, max, min}
 use native.Mathlib.Nat.{le-dest, eq-of-mul-eq-mul-left}
 use native.Mathlib.Decide.{decLe, decLt}
 use native.Mathlib.Omega.{arith}
-use lib.Dec.{T}
+use lib.Dec.{T, eqb}
 use Rattle.segment.specs.declared.Point.{Point}
 use Rattle.segment.specs.Segment.{at, Share, Is, Lies, Clash}
-use Rattle.segment.specs.Test.{same, along, clashes}
 use Rattle.segment.proofs.Decides.{Decides, eq-decides, and-decides, or-decides, cond-decides, guard-decides, same-meaning}
 use Rattle.segment.proofs.CrossProduct.{Weights, weights, on, on-turn}
-use Rattle.segment.proofs.SharedPoint.{meets-decides-share, lies-decides, rows-apart}
+use Rattle.segment.proofs.SharedPoint.{meets, at-start, meets-decides-share, lies-decides, rows-apart}
+
+unfoldable pub same : Point → Point → Bool
+same P Q = eqb (P .column) (Q .column) && eqb (P .row) (Q .row)
+
+-- the segments from P to A and from P to B share more than P
+unfoldable pub along : Point → Point → Point → Bool
+along P A B = meets P B A A || meets P A B B
+
+-- the test of clashes
+unfoldable pub clashes : Point → Point → Point → Point → Bool
+clashes P Q R S = meets P Q R S &&
+    cond (same P R) (along P Q S) (cond (same P S) (along P Q R) (cond (same Q R) (along Q P S) (cond (same Q S) (along Q P R) true)))
 
 pub point : {P Q : Point} → P .column ≡ Q .column → P .row ≡ Q .row → P ≡ Q
 point c r = ap₂ at c r
 
-same-decides : (P Q : Point) → Decides (same P Q) (P ≡ Q)
+column-same : {P Q : Point} → P ≡ Q → P .column ≡ Q .column
+column-same e = ap (λ (X : Point). X .column) e
+
+row-same : {P Q : Point} → P ≡ Q → P .row ≡ Q .row
+row-same e = ap (λ (X : Point). X .row) e
+
+pub same-decides : (P Q : Point) → Decides (same P Q) (P ≡ Q)
 unfolding same
-same-decides P Q = same-meaning (λ z. point (z .0) (z .1), λ e. (ap (λ (X : Point). X .column) e, ap (λ (X : Point). X .row) e)) (and-decides (eq-decides _ _) (eq-decides _ _))
+same-decides P Q = same-meaning (λ z. point (z .0) (z .1), λ e. (column-same e, row-same e)) (and-decides (eq-decides _ _) (eq-decides _ _))
 
 pub clash→share : {P Q R S : Point} → Clash P Q R S → Share P Q R S
 clash→share h = record { q = h .q; x = h .x; y = h .y; q≥1 = h .q≥1; on-PQ = h .on-PQ; on-RS = h .on-RS }
+
+pub clash-rows-apart : {P Q R S : Point} → max (P .row) (Q .row) < min (R .row) (S .row) → Clash P Q R S → ⊥
+clash-rows-apart h c = rows-apart h (clash→share c)
 
 -- ---- symmetries
 
@@ -31,6 +51,9 @@ clash-exchange h = record { q = h .q; x = h .x; y = h .y; q≥1 = h .q≥1; on-P
 
 pub clash-turn : {P Q R S : Point} → Clash P Q R S → Clash P Q S R
 clash-turn h = record { q = h .q; x = h .x; y = h .y; q≥1 = h .q≥1; on-PQ = h .on-PQ; on-RS = on-turn (h .on-RS); no-common-end = λ E a b. h .no-common-end E a (⊎-swap b) }
+
+pub clash-turn-first : {P Q R S : Point} → Clash P Q R S → Clash Q P R S
+clash-turn-first h = clash-exchange (clash-turn (clash-exchange h))
 
 pub clash-sym : (P Q R S : Point) → Clash P Q R S ↔ Clash R S P Q
 clash-sym P Q R S = (clash-exchange, clash-exchange)
@@ -51,12 +74,11 @@ lies→clash {P} {A} {B} n l = let w = weights (l .on) in record {
   q≥1 = omega (arith, l .q≥1);
   on-PQ = on (record { u = l .q; v = l .q; sum = omega arith; in-column = omega arith; in-row = omega arith });
   on-RS = on (record { u = l .q + w .u; v = w .v; sum = omega (arith, w .sum); in-column = omega (arith, w .in-column); in-row = omega (arith, w .in-row) });
-  no-common-end = λ E a b i. n (point
-      (middle _ _ _ _ (l .q≥1) (i .in-column) (⊎-elim (λ e. inl (ap (λ (X : Point). X .column) e)) (λ e. inr (ap (λ (X : Point). X .column) e)) a))
-      (middle _ _ _ _ (l .q≥1) (i .in-row) (⊎-elim (λ e. inl (ap (λ (X : Point). X .row) e)) (λ e. inr (ap (λ (X : Point). X .row) e)) a)));
+  no-common-end = λ E a b i. n
+      (point (middle _ _ _ _ (l .q≥1) (i .in-column) (⊎-map column-same column-same a)) (middle _ _ _ _ (l .q≥1) (i .in-row) (⊎-map row-same row-same a)));
 }
 
--- the shared point is farther along P A than along P B: B lies on P A
+-- the shared point is no greater part of the way to A than of the way to B: B lies on P A
 nearer : {P A B : Point} {q x y : ℕ} (a : Weights P A q x y) (b : Weights P B q x y) → a .v ≤ b .v → 1 ≤ b .v → Lies B P A
 nearer {P} {A} {B} a b h one = go (le-dest h)
   where
@@ -87,23 +109,38 @@ clash→lies {P} {A} {B} h = go (weights (h .on-PQ)) (weights (h .on-RS)) (decLe
     go a b (yes l) (no z) = absurd (h .no-common-end P (inl refl) (inl refl) (at-end b (omega arith)))
     go a b (no l) z = inl (nearer b a (omega arith) (omega arith))
 
+-- ---- a node B on a line that it does not end, and a line from B
+pub on-line→clash : {B C P Q : Point} → B ≢ P → B ≢ Q → Lies B P Q → Clash P Q B C
+on-line→clash {B} {C} n m l = record {
+  q = l .q;
+  x = l .q * B .column;
+  y = l .q * B .row;
+  q≥1 = l .q≥1;
+  on-PQ = l .on;
+  on-RS = at-start B C (l .q);
+  no-common-end = λ E a b i. let e = point (eq-of-mul-eq-mul-left (l .q) (l .q≥1) _ _ (i .in-column)) (eq-of-mul-eq-mul-left (l .q) (l .q≥1) _ _ (i .in-row)) in
+      ⊎-elim (λ k. n (e ∙ k)) (λ k. m (e ∙ k)) a;
+}
+
 -- ---- the theorem
 
--- P is R
-common : {P Q R S : Point} → P ≢ Q → R ≢ S → P ≡ R → Decides (along P Q S) (Clash P Q R S)
-unfolding along
-common {P} {Q} {R} {S} n m e = subst (λ (X : Point). Decides (along P Q S) (Clash P Q X S)) e
-    (same-meaning (⊎-elim (lies→clash n) (λ l. clash-exchange (lies→clash (λ k. m (sym e ∙ k)) l)), clash→lies) (or-decides (lies-decides Q P S) (lies-decides S P Q)))
+-- with a common end, by which two ends are the same
+pub common-PR : {P Q R S : Point} → P ≢ Q → R ≢ S → P ≡ R → (Lies Q P S ⊎ Lies S P Q) ↔ Clash P Q R S
+common-PR {P} {Q} {R} {S} n m e = subst (λ (X : Point). (Lies Q P S ⊎ Lies S P Q) ↔ Clash P Q X S) e
+    (⊎-elim (lies→clash n) (λ l. clash-exchange (lies→clash (λ k. m (sym e ∙ k)) l)), clash→lies)
 
-turn : {P Q R S : Point} → Clash P Q S R ↔ Clash P Q R S
-turn = (clash-turn, clash-turn)
+pub common-PS : {P Q R S : Point} → P ≢ Q → R ≢ S → P ≡ S → (Lies Q P R ⊎ Lies R P Q) ↔ Clash P Q R S
+common-PS n m e = Iff·trans (common-PR n (Ne·symm m) e) (clash-turn, clash-turn)
 
-turn-first : {P Q R S : Point} → Clash Q P R S ↔ Clash P Q R S
-turn-first = (λ h. clash-exchange (clash-turn (clash-exchange h)), λ h. clash-exchange (clash-turn (clash-exchange h)))
+pub common-QR : {P Q R S : Point} → P ≢ Q → R ≢ S → Q ≡ R → (Lies P Q S ⊎ Lies S Q P) ↔ Clash P Q R S
+common-QR n m e = Iff·trans (common-PR (Ne·symm n) m e) (clash-turn-first, clash-turn-first)
 
--- no end is common
-apart : {P Q R S : Point} → P ≢ R → P ≢ S → Q ≢ R → Q ≢ S → Share P Q R S → Clash P Q R S
-apart n₁ n₂ n₃ n₄ h = record {
+pub common-QS : {P Q R S : Point} → P ≢ Q → R ≢ S → Q ≡ S → (Lies P Q R ⊎ Lies R Q P) ↔ Clash P Q R S
+common-QS n m e = Iff·trans (common-PS (Ne·symm n) m e) (clash-turn-first, clash-turn-first)
+
+-- and with none
+pub no-common : {P Q R S : Point} → P ≢ R → P ≢ S → Q ≢ R → Q ≢ S → Share P Q R S → Clash P Q R S
+no-common n₁ n₂ n₃ n₄ h = record {
   q = h .q;
   x = h .x;
   y = h .y;
@@ -113,11 +150,15 @@ apart n₁ n₂ n₃ n₄ h = record {
   no-common-end = λ E a b i. ⊎-elim (λ p. ⊎-elim (λ r. n₁ (sym p ∙ r)) (λ s. n₂ (sym p ∙ s)) b) (λ p. ⊎-elim (λ r. n₃ (sym p ∙ r)) (λ s. n₄ (sym p ∙ s)) b) a;
 }
 
+along-decides : (P A B : Point) → Decides (along P A B) (Lies A P B ⊎ Lies B P A)
+unfolding along
+along-decides P A B = or-decides (lies-decides A P B) (lies-decides B P A)
+
 pub clashes↔clash : (P Q R S : Point) → P ≢ Q → R ≢ S → T (clashes P Q R S) ↔ Clash P Q R S
 unfolding clashes
 clashes↔clash P Q R S n m = guard-decides (meets-decides-share P Q R S) clash→share (λ h.
-    cond-decides (same-decides P R) (common n m) (λ n₁.
-    cond-decides (same-decides P S) (λ e. same-meaning turn (common n (Ne·symm m) e)) (λ n₂.
-    cond-decides (same-decides Q R) (λ e. same-meaning turn-first (common (Ne·symm n) m e)) (λ n₃.
-    cond-decides (same-decides Q S) (λ e. same-meaning turn-first (same-meaning turn (common (Ne·symm n) (Ne·symm m) e))) (λ n₄.
-    record { is = (λ t. apart n₁ n₂ n₃ n₄ h, λ c. tt) }))))) .is
+    cond-decides (same-decides P R) (λ e. same-meaning (common-PR n m e) (along-decides P Q S)) (λ n₁.
+    cond-decides (same-decides P S) (λ e. same-meaning (common-PS n m e) (along-decides P Q R)) (λ n₂.
+    cond-decides (same-decides Q R) (λ e. same-meaning (common-QR n m e) (along-decides Q P S)) (λ n₃.
+    cond-decides (same-decides Q S) (λ e. same-meaning (common-QS n m e) (along-decides Q P R)) (λ n₄.
+    record { is = (λ t. no-common n₁ n₂ n₃ n₄ h, λ c. tt) }))))) .is

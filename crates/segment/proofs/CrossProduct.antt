@@ -8,8 +8,7 @@ use lib.IntN.{pos}
 use lib.Signed.{ltZ}
 use Rattle.segment.specs.declared.Point.{Point}
 use Rattle.segment.specs.Segment.{cross, On}
-use Rattle.segment.proofs.Decides.{Decides}
-use Rattle.segment.proofs.Difference.{Diff, diff-pos, diff-same, diff-sub, diff-mul, diff-nonneg, diff-nonpos, diff-negative}
+use Rattle.segment.proofs.Difference.{Diff, diff-pos, diff-same, diff-sub, diff-mul, diff-negative}
 
 abbrev pub plus : Point → Point → Point → ℕ
 plus P A B = P .column * A .row + A .column * B .row + B .column * P .row
@@ -19,10 +18,11 @@ minus P A B = P .row * A .column + A .row * B .column + B .row * P .column
 
 pub cross-diff : (P A B : Point) → Diff (cross P A B) (plus P A B) (minus P A B)
 unfolding cross
-cross-diff P A B = diff-same (diff-sub (diff-mul (diff-pos (A .column) (P .column)) (diff-pos (B .row) (P .row))) (diff-mul (diff-pos (A .row) (P .row)) (diff-pos (B .column) (P .column)))) (omega arith)
+cross-diff P A B = diff-same _ (diff-sub (diff-mul _ _ (diff-pos (A .column) (P .column)) (diff-pos (B .row) (P .row)))
+    (diff-mul _ _ (diff-pos (A .row) (P .row)) (diff-pos (B .column) (P .column)))) (omega arith)
 
 pub cross-negative : (P A B : Point) → T (ltZ (cross P A B) (pos 0)) ↔ (plus P A B < minus P A B)
-cross-negative P A B = diff-negative (cross-diff P A B) .is
+cross-negative P A B = diff-negative _ (cross-diff P A B) .is
 
 -- `On` with the two weights u = q - s and v = s
 pub record Weights (A B : Point) (q x y : ℕ) : Type 0 where

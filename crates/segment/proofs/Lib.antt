@@ -2,5 +2,7 @@
 pub mod Decides
 pub mod Difference
 pub mod CrossProduct
+pub mod Range
 pub mod SharedPoint
 pub mod Clashing
+pub mod Answers

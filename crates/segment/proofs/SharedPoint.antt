@@ -1,6 +1,7 @@
 -- Two segments share a point exactly where the test `meets` says so, for all natural coordinates. Rests on the laws of the cross product.
 use mathlib.Core.Path.{_≡_, refl, ap}
 use mathlib.Core.Logic.{_↔_, _≢_, _⊎_, inl, inr}
+use mathlib.Core.Bool.{Bool, _&&_}
 use Prim.Native.Nat.{ℕ, _+_, _*_, _≤_, _<_, min, max}
 use native.Mathlib.Nat.{mul-le-mul-left, le-of-mul-le-mul-left, le-dest, min-le-left, min-le-right, le-max-left, le-max-right}
 use native.Mathlib.Decide.{decLe, decLt, ℕ-discrete}
@@ -8,10 +9,14 @@ use native.Mathlib.Omega.{arith}
 use lib.Dec.{T}
 use Rattle.segment.specs.declared.Point.{Point}
 use Rattle.segment.specs.Segment.{On, Share, Lies}
-use Rattle.segment.specs.Test.{overlap, astride, meets}
+use Rattle.segment.specs.Test.{overlap, spans, astride}
 use Rattle.segment.proofs.Decides.{Decides, le-decides, and-decides, or-decides, same-meaning}
 use Rattle.segment.proofs.Difference.{diff-nonneg, diff-nonpos}
-use Rattle.segment.proofs.CrossProduct.{plus, minus, cross-diff, Weights, weights, on, on-turn, linear, cramer-column, cramer-row}
+use Rattle.segment.proofs.CrossProduct.{plus, minus, cross-diff, weights, on, on-turn, linear, cramer-column, cramer-row}
+
+-- the test of shared points
+unfoldable pub meets : Point → Point → Point → Point → Bool
+meets P Q R S = overlap (P .row) (Q .row) (R .row) (S .row) && (overlap (P .column) (Q .column) (R .column) (S .column) && (astride P Q R S && astride R S P Q))
 
 -- ---- the test over ℕ
 
@@ -19,7 +24,7 @@ abbrev pub Overlap : ℕ → ℕ → ℕ → ℕ → Type 0
 Overlap a b x y = (min a b ≤ max x y) × (min x y ≤ max a b)
 
 abbrev pub Astride : Point → Point → Point → Point → Type 0
-Astride A B X Y = ((plus A B X ≤ minus A B X) × (minus A B Y ≤ plus A B Y)) ⊎ ((minus A B X ≤ plus A B X) × (plus A B Y ≤ minus A B Y))
+Astride A B X Y = ((plus A B X ≤ minus A B X) × (minus A B Y ≤ plus A B Y)) ⊎ ((plus A B Y ≤ minus A B Y) × (minus A B X ≤ plus A B X))
 
 abbrev pub Meets : Point → Point → Point → Point → Type 0
 Meets P Q R S = Overlap (P .row) (Q .row) (R .row) (S .row) × (Overlap (P .column) (Q .column) (R .column) (S .column) × (Astride P Q R S × Astride R S P Q))
@@ -29,11 +34,11 @@ unfolding overlap
 overlap-decides a b x y = and-decides (le-decides _ _) (le-decides _ _)
 
 astride-decides : (A B X Y : Point) → Decides (astride A B X Y) (Astride A B X Y)
-unfolding astride
+unfolding astride spans
 astride-decides A B X Y =
     let x = cross-diff A B X in
     let y = cross-diff A B Y in
-    or-decides (and-decides (diff-nonpos x) (diff-nonneg y)) (and-decides (diff-nonneg x) (diff-nonpos y))
+    or-decides (and-decides (diff-nonpos _ x) (diff-nonneg _ y)) (and-decides (diff-nonpos _ y) (diff-nonneg _ x))
 
 meets-decides : (P Q R S : Point) → Decides (meets P Q R S) (Meets P Q R S)
 unfolding meets
@@ -76,13 +81,14 @@ mean a b x y u v t w q m h k one e f = le-of-mul-le-mul-left {k = q} (omega (
 balance : (t w f g b d : ℕ) → 1 ≤ t + w → t * f + w * g ≡ t * b + w * d → b < f → d < g → ⊥
 balance t w f g b d one e h k = omega (arith, mul-le-mul-left t h, mul-le-mul-left w k)
 
-opposed : (t w f g b d : ℕ) → 1 ≤ t + w → t * f + w * g ≡ t * b + w * d → ((f ≤ b) × (d ≤ g)) ⊎ ((b ≤ f) × (g ≤ d))
+-- so where they balance f - b and g - d, the two are not of one sign
+opposed : (t w f g b d : ℕ) → 1 ≤ t + w → t * f + w * g ≡ t * b + w * d → ((f ≤ b) × (d ≤ g)) ⊎ ((g ≤ d) × (b ≤ f))
 opposed t w f g b d one e = go (decLe f b) (decLe d g)
   where
-    go : Dec (f ≤ b) → Dec (d ≤ g) → ((f ≤ b) × (d ≤ g)) ⊎ ((b ≤ f) × (g ≤ d))
+    go : Dec (f ≤ b) → Dec (d ≤ g) → ((f ≤ b) × (d ≤ g)) ⊎ ((g ≤ d) × (b ≤ f))
     go (yes h) (yes k) = inl (h, k)
-    go (no h) k = inr (omega arith, omega (arith, balance t w f g b d one e (omega arith)))
-    go (yes h) (no k) = inr (omega (arith, balance w t d b g f (omega arith) (omega arith) (omega arith)), omega arith)
+    go (no h) k = inr (omega (arith, balance t w f g b d one e (omega arith)), omega arith)
+    go (yes h) (no k) = inr (omega arith, omega (arith, balance w t d b g f (omega arith) (omega arith) (omega arith)))
 
 pub share→meets : {P Q R S : Point} → Share P Q R S → Meets P Q R S
 share→meets {P} {Q} {R} {S} h = let a = weights (h .on-PQ) in
@@ -147,6 +153,7 @@ touch A B X Y l h k z = go (le-dest h) (le-dest k)
       on-RS = at-start X Y (u + v);
     }
 
+-- whichever of A and B has the lesser column
 touch-either : (A B X Y : Point) → A .column ≢ B .column → min (A .column) (B .column) ≤ X .column → X .column ≤ max (A .column) (B .column) → plus A B X ≡ minus A B X → Share A B X Y
 touch-either A B X Y n h k z = go (decLe (A .column) (B .column))
   where
@@ -154,6 +161,7 @@ touch-either A B X Y n h k z = go (decLe (A .column) (B .column))
     go (yes l) = touch A B X Y (omega arith) (omega arith) (omega arith) z
     go (no l) = share-exchange (share-turn (share-exchange (touch B A X Y (omega arith) (omega arith) (omega arith) (omega (arith, z)))))
 
+-- all four are in line, the columns overlap, and a segment has two columns
 record Line (P Q R S : Point) : Type 0 where
   z₁ : plus P Q R ≡ minus P Q R
   z₂ : plus P Q S ≡ minus P Q S
@@ -179,6 +187,7 @@ wide-line P Q R S l = go (decLe (min (P .column) (Q .column)) (min (R .column) (
     go (yes h) = first P Q R S l h
     go (no h) = share-exchange (first R S P Q (record { z₁ = l .z₃; z₂ = l .z₄; z₃ = l .z₁; z₄ = l .z₂; low = l .high; high = l .low; wide = omega (arith, l .wide) }) (omega arith))
 
+-- by columns, else by rows; else all four are one point
 in-line : (P Q R S : Point) → plus P Q R ≡ minus P Q R → plus P Q S ≡ minus P Q S → plus R S P ≡ minus R S P → plus R S Q ≡ minus R S Q →
     Overlap (P .row) (Q .row) (R .row) (S .row) → Overlap (P .column) (Q .column) (R .column) (S .column) → Share P Q R S
 unfolding flip
@@ -211,8 +220,8 @@ meets→share P Q R S (n, (o, (a, b))) = go a b
 
     go : Astride P Q R S → Astride R S P Q → Share P Q R S
     go (inl x) (inl y) = in-line P Q R S (omega arith) (omega arith) (omega arith) (omega arith) n o
-    go (inl x) (inr y) = less P Q R S n o (x .0) (x .1) (y .0) (y .1)
-    go (inr x) (inl y) = share-turn (less P Q S R (omega arith) (omega arith) (x .1) (x .0) (omega arith) (omega arith))
+    go (inl x) (inr y) = less P Q R S n o (x .0) (x .1) (y .1) (y .0)
+    go (inr x) (inl y) = share-turn (less P Q S R (omega arith) (omega arith) (x .0) (x .1) (omega arith) (omega arith))
     go (inr x) (inr y) = in-line P Q R S (omega arith) (omega arith) (omega arith) (omega arith) n o
 
 -- ---- the theorem

@@ -1,8 +1,8 @@
--- Tests that compute, as the code makes them. They are proved to agree with the meaning in Segment.antt; they are not to be believed.
-use mathlib.Core.Bool.{Bool, true, cond, _&&_, _||_}
+-- Tests that the code makes: proved to agree with the meaning in Segment.antt (proofs/SharedPoint.antt), and not to be believed.
+use mathlib.Core.Bool.{Bool, _&&_, _||_}
 use Prim.Native.Nat.{ℕ, min, max}
-use lib.Dec.{leb, eqb}
-use lib.IntN.{pos}
+use lib.Dec.{leb}
+use lib.IntN.{ℤ, pos}
 use lib.Signed.{leZ}
 use Rattle.segment.specs.declared.Point.{Point}
 use Rattle.segment.specs.Segment.{cross}
@@ -11,22 +11,10 @@ use Rattle.segment.specs.Segment.{cross}
 unfoldable pub overlap : ℕ → ℕ → ℕ → ℕ → Bool
 overlap a b x y = leb (min a b) (max x y) && leb (min x y) (max a b)
 
+-- zero is from d to e
+unfoldable pub spans : ℤ → ℤ → Bool
+spans d e = leZ d (pos 0) && leZ (pos 0) e
+
 -- X and Y are not both strictly on one side of the line through A and B
 unfoldable pub astride : Point → Point → Point → Point → Bool
-astride A B X Y = leZ (cross A B X) (pos 0) && leZ (pos 0) (cross A B Y) || leZ (pos 0) (cross A B X) && leZ (cross A B Y) (pos 0)
-
--- the segments from P to Q and from R to S share a point
-unfoldable pub meets : Point → Point → Point → Point → Bool
-meets P Q R S = overlap (P .row) (Q .row) (R .row) (S .row) && (overlap (P .column) (Q .column) (R .column) (S .column) && (astride P Q R S && astride R S P Q))
-
-unfoldable pub same : Point → Point → Bool
-same P Q = eqb (P .column) (Q .column) && eqb (P .row) (Q .row)
-
--- the segments from P to A and from P to B share more than P
-unfoldable pub along : Point → Point → Point → Bool
-along P A B = meets P B A A || meets P A B B
-
--- the segments share a point that does not end both
-unfoldable pub clashes : Point → Point → Point → Point → Bool
-clashes P Q R S = meets P Q R S &&
-    cond (same P R) (along P Q S) (cond (same P S) (along P Q R) (cond (same Q R) (along Q P S) (cond (same Q S) (along Q P R) true)))
+astride A B X Y = spans (cross A B X) (cross A B Y) || spans (cross A B Y) (cross A B X)

@@ -1,0 +1,2 @@
+-- The proof of the starred sheets.
+pub mod Starred

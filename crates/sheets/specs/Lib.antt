@@ -1,0 +1,2 @@
+-- The sheets worked by hand in document 01.
+pub mod Cases

@@ -1,0 +1,5 @@
+-- The laws of the verdict, and the proofs of the functions. None is assumed.
+pub mod Unique
+pub mod Ends
+pub mod Clashes
+pub mod Decide
