@@ -1,3 +1,3 @@
 -- Laws of the drawer's answer.
 pub mod Answered
-pub mod Store
+pub mod StoredPoints

@@ -19,7 +19,7 @@ use Rattle.layout.proofs.Theorem.{promise}
 use Rattle.layout.proofs.Records.{Agrees, Checked, drawn-checked}
 use Rattle.drawing.specs.Answer.{store, planOf, drawnOf, placedIn}
 use Rattle.drawing.specs.declared.Drawn.{Drawn}
-use Rattle.drawing.proofs.Store.{times, store-length, store-point}
+use Rattle.drawing.proofs.StoredPoints.{times, store-length, store-point}
 use Rattle.drawing.proofs.Answered.{Accepted, accepted, drawn-refusal}
 use Rattle.verdict.specs.Lines.{pointOf}
 use Rattle.verdict.specs.Conditions.{SamePoint, NotLower, Touching, OutOfOrder}

@@ -1,65 +1,75 @@
--- What document 01's sheet check asks of a layout: nodes and lines by their place in the tree, and the conditions 21 to 24.
+-- The conditions 21 to 24 of document 01 ("What the sheet check says") over a layout: the record `Clean`.
+-- Nodes and edges go by the way to them from the root, not by their records.
 use mathlib.Core.Path.{_≡_}
 use mathlib.Core.Logic.{_⊎_, _≢_}
 use Prim.Native.Nat.{ℕ, _+_, _*_, _≤_, _<_}
 use Rattle.segment.specs.declared.Point.{Point}
-use Rattle.segment.specs.Segment.{On}
+use Rattle.segment.specs.Segment.{On, Is}
 use Rattle.table.specs.Table.{Side, left, right}
 use Rattle.layout.specs.Layout.{Layout, placed}
 
--- A node, by the way to it from the root.
-pub data Node : Layout → Type 0 where
-  root : {k : ℕ} {P : Point} {a b : Layout} → Node (placed k P a b)
-  left-node : {k : ℕ} {P : Point} {a b : Layout} → Node a → Node (placed k P a b)
-  right-node : {k : ℕ} {P : Point} {a b : Layout} → Node b → Node (placed k P a b)
+-- The subtree on a side.
+abbrev pub onSide : Side → Layout → Layout → Layout
+onSide left a b = a
+onSide right a b = b
 
--- Its point, and its record.
+-- A layout that has a root.
+pub data Rooted : Layout → Type 0 where
+  rooted : {k : ℕ} {P : Point} {a b : Layout} → Rooted (placed k P a b)
+
+-- Nodes and edges are compared with each other: they are the two kinds of pieces of a layout.
+pub data Kind : Type 0 where
+  a-node an-edge : Kind
+
+-- The root, its edge to the child on a side, or a piece of the subtree on a side.
+pub data Piece : Kind → Layout → Type 0 where
+  root : {k : ℕ} {P : Point} {a b : Layout} → Piece a-node (placed k P a b)
+  edge : {k : ℕ} {P : Point} {a b : Layout} (s : Side) → Rooted (onSide s a b) → Piece an-edge (placed k P a b)
+  below : {c : Kind} {k : ℕ} {P : Point} {a b : Layout} (s : Side) → Piece c (onSide s a b) → Piece c (placed k P a b)
+
+abbrev pub Node : Layout → Type 0
+Node L = Piece a-node L
+
+abbrev pub Edge : Layout → Type 0
+Edge L = Piece an-edge L
+
+-- The root of a layout that has one.
+abbrev pub top : {L : Layout} → Rooted L → Node L
+top rooted = root
+
+-- A node's point and its record.
 abbrev pub point : {L : Layout} → Node L → Point
 point (root {P}) = P
-point (left-node n) = point n
-point (right-node n) = point n
+point (below s n) = point n
 
 abbrev pub recordOf : {L : Layout} → Node L → ℕ
 recordOf (root {k}) = k
-recordOf (left-node n) = recordOf n
-recordOf (right-node n) = recordOf n
+recordOf (below s n) = recordOf n
 
--- A line from a node to its child, by the way to it: from the root to its left or right child, or within the left or right subtree.
-pub data Edge : Layout → Type 0 where
-  left-edge : {k i : ℕ} {P A : Point} {a a′ b : Layout} → Edge (placed k P (placed i A a a′) b)
-  right-edge : {k j : ℕ} {P B : Point} {a b b′ : Layout} → Edge (placed k P a (placed j B b b′))
-  left-below : {k : ℕ} {P : Point} {a b : Layout} → Edge a → Edge (placed k P a b)
-  right-below : {k : ℕ} {P : Point} {a b : Layout} → Edge b → Edge (placed k P a b)
+-- The two ends of an edge. Those of a node are the node itself.
+abbrev pub parent : {c : Kind} {L : Layout} → Piece c L → Node L
+parent root = root
+parent (edge s h) = root
+parent (below s p) = below s (parent p)
 
--- The node and the child.
-abbrev pub parent : {L : Layout} → Edge L → Node L
-parent left-edge = root
-parent right-edge = root
-parent (left-below l) = left-node (parent l)
-parent (right-below l) = right-node (parent l)
+abbrev pub child : {c : Kind} {L : Layout} → Piece c L → Node L
+child root = root
+child (edge s h) = below s (top h)
+child (below s p) = below s (child p)
 
-abbrev pub child : {L : Layout} → Edge L → Node L
-child left-edge = left-node root
-child right-edge = right-node root
-child (left-below l) = left-node (child l)
-child (right-below l) = right-node (child l)
-
--- The side on which the child is.
+-- The side on which an edge's child is.
 abbrev pub side : {L : Layout} → Edge L → Side
-side left-edge = left
-side right-edge = right
-side (left-below l) = side l
-side (right-below l) = side l
+side (edge s h) = s
+side (below s l) = side l
 
--- A node ends a line.
-abbrev pub Ends : {L : Layout} → Node L → Edge L → Type 0
-Ends n l = (n ≡ parent l) ⊎ (n ≡ child l)
+abbrev pub Ends : {c : Kind} {L : Layout} → Node L → Piece c L → Type 0
+Ends n p = (n ≡ parent p) ⊎ (n ≡ child p)
 
--- (x, y) / q is on a line.
+-- (x, y) / q is a point of the edge.
 abbrev pub OnEdge : {L : Layout} → Edge L → (q x y : ℕ) → Type 0
 OnEdge l q x y = On (point (parent l)) (point (child l)) q x y
 
--- The cross product of A - P and B - P, that is a·d − b·c, is below zero; over ℕ, by what is taken away on the other side.
+-- The cross product of A − P and B − P, 24's a·d − b·c, is below zero. Over ℕ: what is taken away stands on the other side.
 abbrev pub Before : Point → Point → Point → Type 0
 Before P A B = P .column * A .row + A .column * B .row + B .column * P .row < P .row * A .column + A .row * B .column + B .row * P .column
 
@@ -69,8 +79,7 @@ pub record Clean (L : Layout) : Type 0 where
   -- 22
   pub lower : (l : Edge L) → point (parent l) .row < point (child l) .row
   -- 23
-  pub planar : (l m : Edge L) → l ≢ m → (q x y : ℕ) → 1 ≤ q → OnEdge l q x y → OnEdge m q x y →
-      (n : Node L) × Ends n l × Ends n m × (x ≡ q * point n .column) × (y ≡ q * point n .row)
+  pub planar : (l m : Edge L) → l ≢ m → (q x y : ℕ) → 1 ≤ q → OnEdge l q x y → OnEdge m q x y → (n : Node L) × Ends n l × Ends n m × Is (point n) q x y
   pub clear : (n : Node L) (l : Edge L) (q : ℕ) → 1 ≤ q → OnEdge l q (q * point n .column) (q * point n .row) → Ends n l
   -- 24
   pub ordered : (l m : Edge L) → parent l ≡ parent m → side l ≡ left → side m ≡ right → Before (point (parent l)) (point (child l)) (point (child m))

@@ -1,14 +1,18 @@
--- The points of a drawing, and what it is for a drawing to be clean: the form in which the argument goes by induction over the layout.
-use mathlib.Core.Path.{_≡_, refl, ap, sym, _∙_}
-use Prim.Native.Nat.{ℕ, zero, suc, _+_, _*_, _-_, _≤_, _<_, max}
+-- The points of a drawing, and `Untangled`: the form of 21 to 24 in which the argument goes, by induction over the layout.
+-- An untangled drawing has its root alone in its top row (`pointed`), and a drawing's points are in the rectangle of its nodes (`point-within`).
+use mathlib.Core.Path.{_≡_, refl, ap, subst, _∙_}
+use Prim.Native.Nat.{ℕ, suc, _+_, _*_, _-_, _≤_, _<_}
 use native.Mathlib.Nat.{mul-le-mul-left}
 use native.Mathlib.Omega.{arith}
 use Rattle.segment.specs.declared.Point.{Point}
-use Rattle.segment.specs.Segment.{at, On}
-use Rattle.layout.specs.Layout.{Layout, blank, placed, width, height}
-use Rattle.layout.proofs.Clean.{Before}
+use Rattle.segment.specs.Segment.{On, Is}
+use Rattle.table.specs.Table.{Side, left, right}
+use Rattle.layout.specs.Layout.{Layout, blank, placed, height}
+use Rattle.layout.proofs.Clean.{onSide, Rooted, rooted, Kind, Piece, root, edge, below, Node, top, point, parent, child, Before}
 
--- `On` with the two weights u = q - s and v = s
+-- ---- points of a segment
+
+-- `On` with the weights u = q − s and v = s of the two ends.
 pub record Between (P Q : Point) (q x y : ℕ) : Type 0 where
   pub u : ℕ
   pub v : ℕ
@@ -19,55 +23,27 @@ pub record Between (P Q : Point) (q x y : ℕ) : Type 0 where
 pub between : {P Q : Point} {q x y : ℕ} → On P Q q x y → Between P Q q x y
 between {q} o = record { u = q - o .s; v = o .s; sum = let h : o .s ≤ q = o .s≤q in omega arith; in-column = o .at-column; in-row = o .at-row }
 
--- (x, y) / q is a point of the line from P to the root of a drawing
-pub data EdgeTo (P : Point) (q x y : ℕ) : Layout → Type 0 where
-  edge : {k : ℕ} {Q : Point} {a b : Layout} → Between P Q q x y → EdgeTo P q x y (placed k Q a b)
+pub itself : (P : Point) (q : ℕ) → Between P P q (q * P .column) (q * P .row)
+itself P q = record { u = q; v = 0; sum = omega arith; in-column = omega arith; in-row = omega arith }
 
--- (x, y) / q is a node of a drawing, or a point of a line of it
-pub data PointOf (q x y : ℕ) : Layout → Type 0 where
-  at-node : {k : ℕ} {P : Point} {a b : Layout} → x ≡ q * P .column → y ≡ q * P .row → PointOf q x y (placed k P a b)
-  to-left : {k : ℕ} {P : Point} {a b : Layout} → EdgeTo P q x y a → PointOf q x y (placed k P a b)
-  to-right : {k : ℕ} {P : Point} {a b : Layout} → EdgeTo P q x y b → PointOf q x y (placed k P a b)
-  in-left : {k : ℕ} {P : Point} {a b : Layout} → PointOf q x y a → PointOf q x y (placed k P a b)
-  in-right : {k : ℕ} {P : Point} {a b : Layout} → PointOf q x y b → PointOf q x y (placed k P a b)
+-- q times a number, by the weights.
+pub weighed : {P Q : Point} {q x y : ℕ} (m : Between P Q q x y) (n : ℕ) → m .u * n + m .v * n ≡ q * n
+weighed m n = omega (arith, ap (λ (i : ℕ). i * n) (m .sum))
 
--- the root, if there is one, is lower than row m; is at (c, r)
-abbrev pub Lower : ℕ → Layout → Type 0
-Lower m blank = Unit {0}
-Lower m (placed k Q a b) = m < Q .row
+pub at-itself : {P : Point} {q x y : ℕ} → Between P P q x y → Is P q x y
+at-itself {P} m = record { in-column = m .in-column ∙ weighed m (P .column); in-row = m .in-row ∙ weighed m (P .row) }
 
-abbrev pub RootAt : Layout → ℕ → ℕ → Type 0
-RootAt blank c r = Unit {0}
-RootAt (placed k Q a b) c r = (Q .column ≡ c) × (Q .row ≡ r)
+-- Without weight at Q the point is P.
+pub at-end : {P Q : Point} {q x y : ℕ} (m : Between P Q q x y) → m .v ≡ 0 → Is P q x y
+at-end {P} {Q} m e = record {
+  in-column = omega (arith, m .in-column, weighed m (P .column), ap (λ (i : ℕ). i * P .column) e, ap (λ (i : ℕ). i * Q .column) e);
+  in-row = omega (arith, m .in-row, weighed m (P .row), ap (λ (i : ℕ). i * P .row) e, ap (λ (i : ℕ). i * Q .row) e);
+}
 
--- 24: a left child before a right one
-abbrev pub Order : Point → Layout → Layout → Type 0
-Order P blank b = Unit {0}
-Order P (placed i A a a′) blank = Unit {0}
-Order P (placed i A a a′) (placed j B b b′) = Before P A B
+abbrev back : {P Q : Point} {q x y : ℕ} → Between P Q q x y → Between Q P q x y
+back m = record { u = m .v; v = m .u; sum = omega (arith, m .sum); in-column = omega (arith, m .in-column); in-row = omega (arith, m .in-row) }
 
--- what a node P asks of its two children a and b
-pub record Fork (P : Point) (a b : Layout) : Type 0 where
-  pub low-a : Lower (P .row) a
-  pub low-b : Lower (P .row) b
-  pub order : Order P a b
-  pub apart : {q x y : ℕ} → 1 ≤ q → PointOf q x y a → PointOf q x y b → ⊥
-  pub cross-a : {q x y : ℕ} → 1 ≤ q → EdgeTo P q x y a → PointOf q x y b → ⊥
-  pub cross-b : {q x y : ℕ} → 1 ≤ q → EdgeTo P q x y b → PointOf q x y a → ⊥
-
-pub data Untangled : Layout → Type 0 where
-  bare : Untangled blank
-  fork : {k : ℕ} {P : Point} {a b : Layout} → Untangled a → Untangled b → Fork P a b → Untangled (placed k P a b)
-
--- ---- one line
-
-pub between-wide : {P Q : Point} {q x y : ℕ} (w : ℕ) → P .column < w → Q .column < w → Between P Q q x y → x + q ≤ q * w
-between-wide w h k m = omega (arith, mul-le-mul-left (m .u) h, mul-le-mul-left (m .v) k, ap (λ (n : ℕ). n * w) (m .sum))
-
-pub between-high : {P Q : Point} {q x y : ℕ} (w : ℕ) → P .row < w → Q .row < w → Between P Q q x y → y + q ≤ q * w
-between-high w h k m = omega (arith, mul-le-mul-left (m .u) h, mul-le-mul-left (m .v) k, ap (λ (n : ℕ). n * w) (m .sum))
-
--- between its ends in rows, and at an end's row the end
+-- A point of a segment that falls is between the rows of its ends, and in the row of an end only at that end.
 pub record Falls (P Q : Point) (q x y : ℕ) : Type 0 where
   pub over : q * P .row ≤ y
   pub above : y ≤ q * Q .row
@@ -75,97 +51,174 @@ pub record Falls (P Q : Point) (q x y : ℕ) : Type 0 where
   pub stop : q * Q .row ≤ y → x ≡ q * Q .column
 
 pub falls : {P Q : Point} {q x y : ℕ} → P .row < Q .row → Between P Q q x y → Falls P Q q x y
-falls {P} {Q} {q} {x} {y} h m = record {
-  over = omega (arith, mul-le-mul-left (m .v) h, ap (λ (n : ℕ). n * P .row) (m .sum));
-  above = omega (arith, mul-le-mul-left (m .u) h, ap (λ (n : ℕ). n * Q .row) (m .sum));
-  start = λ l. at-start l (omega (arith, mul-le-mul-left (m .v) h, ap (λ (n : ℕ). n * P .row) (m .sum)));
-  stop = λ l. at-stop l (omega (arith, mul-le-mul-left (m .u) h, ap (λ (n : ℕ). n * Q .row) (m .sum)));
+falls {P} {Q} h m = record {
+  over = omega (arith, mul-le-mul-left (m .v) h, m .in-row, weighed m (P .row));
+  above = omega (arith, mul-le-mul-left (m .u) h, m .in-row, weighed m (Q .row));
+  start = λ l. at-end m (omega (arith, mul-le-mul-left (m .v) h, m .in-row, weighed m (P .row))) .in-column;
+  stop = λ l. at-end (back m) (omega (arith, mul-le-mul-left (m .u) h, m .in-row, weighed m (Q .row))) .in-column;
 }
-  where
-    at-start : y ≤ q * P .row → m .v ≡ 0 → x ≡ q * P .column
-    at-start l e = omega (arith, m .in-column, ap (λ (n : ℕ). n * P .column) (m .sum), ap (λ (n : ℕ). n * P .column) e, ap (λ (n : ℕ). n * Q .column) e)
 
-    at-stop : q * Q .row ≤ y → m .u ≡ 0 → x ≡ q * Q .column
-    at-stop l e = omega (arith, m .in-column, ap (λ (n : ℕ). n * Q .column) (m .sum), ap (λ (n : ℕ). n * P .column) e, ap (λ (n : ℕ). n * Q .column) e)
+-- ---- points of a drawing
 
--- ---- a clean drawing below row m
+abbrev pub Along : {c : Kind} {L : Layout} → Piece c L → (q x y : ℕ) → Type 0
+Along p q x y = Between (point (parent p)) (point (child p)) q x y
 
-edge-deep : {P : Point} {q x y : ℕ} {L : Layout} → Lower (P .row) L → EdgeTo P q x y L → q * P .row ≤ y
-edge-deep h (edge m) = falls h m .over
+-- (x, y) / q is a point of the drawing.
+pub record PointOf (q x y : ℕ) (L : Layout) : Type 0 where
+  pub kind : Kind
+  pub piece : Piece kind L
+  pub on : Along piece q x y
+
+abbrev pub pointOn : {c : Kind} {q x y : ℕ} {L : Layout} (p : Piece c L) → Along p q x y → PointOf q x y L
+pointOn {c} p m = record { kind = c; piece = p; on = m }
+
+pub rooted-high : {L : Layout} → Rooted L → 1 ≤ height L
+unfolding height
+rooted-high rooted = omega arith
+
+piece-rooted : {c : Kind} {L : Layout} → Piece c L → Rooted L
+piece-rooted root = rooted
+piece-rooted (edge s h) = rooted
+piece-rooted (below s p) = rooted
+
+pub point-rooted : {q x y : ℕ} {L : Layout} → PointOf q x y L → Rooted L
+point-rooted t = piece-rooted (t .piece)
+
+-- (x, y) / q is a point of the edge from P to the root of a drawing.
+pub record EdgeTo (P : Point) (q x y : ℕ) (L : Layout) : Type 0 where
+  pub has : Rooted L
+  pub on : Between P (point (top has)) q x y
+
+pub point-edge : {k : ℕ} {P : Point} {q x y : ℕ} {a b : Layout} (s : Side) → EdgeTo P q x y (onSide s a b) → PointOf q x y (placed k P a b)
+point-edge s e = pointOn (edge s (e .has)) (e .on)
+
+pub point-below : {k : ℕ} {P : Point} {q x y : ℕ} {a b : Layout} (s : Side) → PointOf q x y (onSide s a b) → PointOf q x y (placed k P a b)
+point-below s t = pointOn (below s (t .piece)) (t .on)
+
+-- The root, if there is one, is lower than row m; is at Q.
+abbrev pub Lower : ℕ → Layout → Type 0
+Lower m blank = Unit {0}
+Lower m (placed k P a b) = m < P .row
+
+abbrev pub RootAt : Point → Layout → Type 0
+RootAt Q blank = Unit {0}
+RootAt Q (placed k P a b) = P ≡ Q
+
+-- ---- untangled drawings
+
+-- 24: the left child before the right one.
+abbrev pub Order : Point → Layout → Layout → Type 0
+Order P blank b = Unit {0}
+Order P (placed i A a a′) blank = Unit {0}
+Order P (placed i A a a′) (placed j B b b′) = Before P A B
+
+-- The drawings of the two subtrees of a node at P are below it and apart, and the edge to each is clear of the other.
+pub record Apart (P : Point) (a b : Layout) : Type 0 where
+  pub low-a : Lower (P .row) a
+  pub low-b : Lower (P .row) b
+  pub apart : {q x y : ℕ} → 1 ≤ q → PointOf q x y a → PointOf q x y b → ⊥
+  pub clear-a : {q x y : ℕ} → 1 ≤ q → EdgeTo P q x y a → PointOf q x y b → ⊥
+  pub clear-b : {q x y : ℕ} → 1 ≤ q → EdgeTo P q x y b → PointOf q x y a → ⊥
+
+pub exchange : {P : Point} {a b : Layout} → Apart P a b → Apart P b a
+exchange j = record { low-a = j .low-b; low-b = j .low-a; apart = λ one s t. j .apart one t s; clear-a = j .clear-b; clear-b = j .clear-a }
+
+pub data Untangled : Layout → Type 0 where
+  bare : Untangled blank
+  fork : {k : ℕ} {P : Point} {a b : Layout} → Untangled a → Untangled b → Apart P a b → Order P a b → Untangled (placed k P a b)
+
+-- What holds of both subtrees, of the one on a side.
+pub low : {P : Point} {a b : Layout} → Apart P a b → (s : Side) → Lower (P .row) (onSide s a b)
+low j left = j .low-a
+low j right = j .low-b
+
+pub untangled : {a b : Layout} → Untangled a → Untangled b → (s : Side) → Untangled (onSide s a b)
+untangled c d left = c
+untangled c d right = d
+
+-- ---- the top row of an untangled drawing
+
+lower-all : {L : Layout} → Untangled L → {m : ℕ} → Lower m L → (n : Node L) → m < point n .row
+lower-all (fork c d j o) h root = h
+lower-all (fork {P} c d j o) h (below s n) = omega (arith, lower-all (untangled c d s) {m = P .row} (low j s) n)
 
 pub deep : {q x y : ℕ} {L : Layout} → Untangled L → (m : ℕ) → Lower m L → PointOf q x y L → q * m + q ≤ y
-deep {q} (fork ca cb j) m h (at-node e f) = omega (arith, f, mul-le-mul-left q h)
-deep {q} (fork ca cb j) m h (to-left l) = omega (arith, edge-deep (j .low-a) l, mul-le-mul-left q h)
-deep {q} (fork ca cb j) m h (to-right l) = omega (arith, edge-deep (j .low-b) l, mul-le-mul-left q h)
-deep {q} (fork {P} ca cb j) m h (in-left t) = omega (arith, deep ca (P .row) (j .low-a) t, mul-le-mul-left q h)
-deep {q} (fork {P} ca cb j) m h (in-right t) = omega (arith, deep cb (P .row) (j .low-b) t, mul-le-mul-left q h)
+deep c m h t = omega (
+  arith,
+  t .on .in-row,
+  mul-le-mul-left (t .on .u) (lower-all c h (parent (t .piece))),
+  mul-le-mul-left (t .on .v) (lower-all c h (child (t .piece))),
+  weighed (t .on) (suc m),
+)
 
--- ---- the top row holds the root alone
+pub low-top : {L : Layout} {m : ℕ} → Lower m L → (h : Rooted L) → m < point (top h) .row
+low-top l rooted = l
 
-pub record Peak (c r q x y : ℕ) : Type 0 where
-  pub rows : q * r ≤ y
-  pub top : y ≤ q * r → x ≡ q * c
+-- (x, y) / q is not above the row of P, and in that row only at P.
+pub record Under (P : Point) (q x y : ℕ) : Type 0 where
+  pub rows : q * P .row ≤ y
+  pub only : y ≤ q * P .row → x ≡ q * P .column
 
-edge-peak : {P : Point} {q x y : ℕ} {L : Layout} → Lower (P .row) L → EdgeTo P q x y L → Peak (P .column) (P .row) q x y
-edge-peak h (edge m) = record { rows = falls h m .over; top = falls h m .start }
+under-piece : {L : Layout} {c : Kind} {q x y : ℕ} → Untangled L → (h : Rooted L) → 1 ≤ q → (p : Piece c L) → Along p q x y → Under (point (top h)) q x y
+under-piece (fork {P} c d j o) rooted one root m = record { rows = omega (arith, m .in-row, weighed m (P .row)); only = λ l. m .in-column ∙ weighed m (P .column) }
+under-piece (fork c d j o) rooted one (edge s h) m = let f = falls (low-top (low j s) h) m in record { rows = f .over; only = f .start }
+under-piece (fork {P} c d j o) rooted one (below s p) m = let h = deep (untangled c d s) (P .row) (low j s) (pointOn p m) in record { rows = omega arith; only = λ l. absurd (omega arith) }
 
-below-peak : (c r q x y : ℕ) → 1 ≤ q → q * r + q ≤ y → Peak c r q x y
-below-peak c r q x y one h = record { rows = omega arith; top = λ l. absurd (omega arith) }
+-- The top row holds the root alone.
+pub under-top : {L : Layout} {q x y : ℕ} → Untangled L → (h : Rooted L) → 1 ≤ q → PointOf q x y L → Under (point (top h)) q x y
+under-top c h one t = under-piece c h one (t .piece) (t .on)
 
-pub peak : {k : ℕ} {P : Point} {a b : Layout} {q x y : ℕ} → Untangled (placed k P a b) → 1 ≤ q → PointOf q x y (placed k P a b) → Peak (P .column) (P .row) q x y
-peak (fork ca cb j) one (at-node e f) = record { rows = omega arith; top = λ l. e }
-peak (fork ca cb j) one (to-left l) = edge-peak (j .low-a) l
-peak (fork ca cb j) one (to-right l) = edge-peak (j .low-b) l
-peak (fork {P} ca cb j) one (in-left t) = below-peak _ _ _ _ _ one (deep ca (P .row) (j .low-a) t)
-peak (fork {P} ca cb j) one (in-right t) = below-peak _ _ _ _ _ one (deep cb (P .row) (j .low-b) t)
+-- ---- a root whose place is known
 
-pub pointed : (L : Layout) {q x y : ℕ} → Untangled L → (c r : ℕ) → RootAt L c r → 1 ≤ q → PointOf q x y L → Peak c r q x y
-pointed (placed k P a b) {q} cl c r h one t =
-    let p = peak cl one t in
-    let e : q * P .column ≡ q * c = ap (λ (n : ℕ). q * n) (h .0) in
-    let f : q * P .row ≡ q * r = ap (λ (n : ℕ). q * n) (h .1) in
-    record { rows = omega (arith, p .rows); top = λ l. p .top (omega arith) ∙ e }
+-- Untangled, with its root, if there is one, at Q.
+pub record UntangledAt (Q : Point) (L : Layout) : Type 0 where
+  pub untangled : Untangled L
+  pub root : RootAt Q L
 
--- the line to a child, when the child's place is known
-pub to : (L : Layout) {P : Point} {q x y : ℕ} → (c r : ℕ) → RootAt L c r → EdgeTo P q x y L → Between P (at c r) q x y
-to (placed k Q a b) {P} c r h (edge m) = record {
-  u = m .u;
-  v = m .v;
-  sum = m .sum;
-  in-column = m .in-column ∙ ap (λ (n : ℕ). m .u * P .column + m .v * n) (h .0);
-  in-row = m .in-row ∙ ap (λ (n : ℕ). m .u * P .row + m .v * n) (h .1);
-}
+top-at : {L : Layout} (Q : Point) → RootAt Q L → (h : Rooted L) → point (top h) ≡ Q
+top-at Q e rooted = e
 
-pub lower : (L : Layout) (m c r : ℕ) → RootAt L c r → m < r → Lower m L
-lower blank m c r h l = tt
-lower (placed k Q a b) m c r h l = omega arith
+pub low-at : {L : Layout} {m : ℕ} {Q : Point} → UntangledAt Q L → m < Q .row → Lower m L
+low-at {L} {m} {Q} z l = go L (z .root)
+  where
+    go : (L : Layout) → RootAt Q L → Lower m L
+    go blank h = tt
+    go (placed k P a b) h = omega (arith, ap (λ (R : Point). R .row) h)
 
-pub edge-some : {P : Point} {q x y : ℕ} {L : Layout} → EdgeTo P q x y L → 1 ≤ height L
-unfolding height
-edge-some (edge m) = omega arith
+pub edge-at : {L : Layout} {P Q : Point} {q x y : ℕ} → UntangledAt Q L → EdgeTo P q x y L → Between P Q q x y
+edge-at {P} {Q} {q} {x} {y} z e = subst (λ (R : Point). Between P R q x y) (top-at Q (z .root) (e .has)) (e .on)
 
--- ---- a drawing's points are within its width and height
+pub under-at : {L : Layout} {Q : Point} {q x y : ℕ} → UntangledAt Q L → 1 ≤ q → PointOf q x y L → Under Q q x y
+under-at {Q} {q} {x} {y} z one t = let r = point-rooted t in subst (λ (R : Point). Under R q x y) (top-at Q (z .root) r) (under-top (z .untangled) r one t)
 
-edge-wide : {P : Point} {q x y : ℕ} {L : Layout} (w : ℕ) → P .column < w → width L ≤ w → EdgeTo P q x y L → x + q ≤ q * w
-unfolding width
-edge-wide w h k (edge m) = between-wide w h (omega arith) m
+pub order-at : (P : Point) {A B : Point} {a b : Layout} → UntangledAt A a → UntangledAt B b → (Rooted a → Rooted b → Before P A B) → Order P a b
+order-at P {A} {B} {a} {b} z w t = go a b (z .root) (w .root) t
+  where
+    go : (a b : Layout) → RootAt A a → RootAt B b → (Rooted a → Rooted b → Before P A B) → Order P a b
+    go blank b h i t = tt
+    go (placed k R a a′) blank h i t = tt
+    go (placed k R a a′) (placed l S b b′) h i t = rw (h, i) (t rooted rooted)
 
-pub point-wide : {q x y : ℕ} {L : Layout} (w : ℕ) → width L ≤ w → PointOf q x y L → x + q ≤ q * w
-unfolding width
-point-wide {q} w h (at-node {P} e f) = let k : P .column < w = omega arith in omega (arith, mul-le-mul-left q k)
-point-wide w h (to-left l) = edge-wide w (omega arith) (omega arith) l
-point-wide w h (to-right l) = edge-wide w (omega arith) (omega arith) l
-point-wide w h (in-left t) = point-wide w (omega arith) t
-point-wide w h (in-right t) = point-wide w (omega arith) t
+-- ---- rectangles
 
-edge-high : {P : Point} {q x y : ℕ} {L : Layout} (w : ℕ) → P .row < w → height L ≤ w → EdgeTo P q x y L → y + q ≤ q * w
-unfolding height
-edge-high w h k (edge m) = between-high w h (omega arith) m
+-- (x, y) / q is in the w columns from e on and in the h rows from t on.
+pub record Within (e w t h q x y : ℕ) : Type 0 where
+  pub from-column : q * e ≤ x
+  pub to-column : x + q ≤ q * (e + w)
+  pub from-row : q * t ≤ y
+  pub to-row : y + q ≤ q * (t + h)
 
-pub point-high : {q x y : ℕ} {L : Layout} (w : ℕ) → height L ≤ w → PointOf q x y L → y + q ≤ q * w
-unfolding height
-point-high {q} w h (at-node {P} e f) = let k : P .row < w = omega arith in omega (arith, mul-le-mul-left q k)
-point-high w h (to-left l) = edge-high w (omega arith) (omega arith) l
-point-high w h (to-right l) = edge-high w (omega arith) (omega arith) l
-point-high w h (in-left t) = point-high w (omega arith) t
-point-high w h (in-right t) = point-high w (omega arith) t
+abbrev pub NodeWithin : (e w t h : ℕ) {L : Layout} → Node L → Type 0
+NodeWithin e w t h n = Within e w t h 1 (point n .column) (point n .row)
+
+-- A drawing's points are in the rectangle that its nodes are in.
+pub point-within : (e w t h : ℕ) {q x y : ℕ} {L : Layout} → ((n : Node L) → NodeWithin e w t h n) → PointOf q x y L → Within e w t h q x y
+point-within e w t h {q} {x} {y} all z = go (all (parent (z .piece))) (all (child (z .piece))) (z .on)
+  where
+    go : {P Q : Point} → Within e w t h 1 (P .column) (P .row) → Within e w t h 1 (Q .column) (Q .row) → Between P Q q x y → Within e w t h q x y
+    go i j m = record {
+      from-column = omega (arith, m .in-column, mul-le-mul-left (m .u) (i .from-column), mul-le-mul-left (m .v) (j .from-column), weighed m e);
+      to-column = omega (arith, m .in-column, m .sum, mul-le-mul-left (m .u) (i .to-column), mul-le-mul-left (m .v) (j .to-column), weighed m (e + w));
+      from-row = omega (arith, m .in-row, mul-le-mul-left (m .u) (i .from-row), mul-le-mul-left (m .v) (j .from-row), weighed m t);
+      to-row = omega (arith, m .in-row, m .sum, mul-le-mul-left (m .u) (i .to-row), mul-le-mul-left (m .v) (j .to-row), weighed m (t + h));
+    }

@@ -1,22 +1,25 @@
--- Counting: the nodes of a layout, and the rows that hold one.
-use mathlib.Core.Path.{_≡_, refl, ap, ap₂, sym, _∙_}
-use Prim.Native.Nat.{ℕ, zero, suc, _+_, _*_, _-_, _≤_, _<_, max}
+-- What a layout keeps under the motions: its tree (`shape`), how many nodes it has (`count`), and which rows hold one (`HoldsRow`).
+use mathlib.Core.Path.{_≡_, refl, ap, ap₂, _∙_}
+use Prim.Native.Nat.{ℕ, _+_}
 use native.Mathlib.Omega.{arith}
 use Rattle.segment.specs.declared.Point.{Point}
-use Rattle.segment.specs.Segment.{at}
+use Rattle.table.specs.Table.{Side, left, right}
 use Rattle.table.specs.Tree.{Tree, none, node, size}
 use Rattle.layout.specs.Layout.{Layout, blank, placed, shift, flip, mirror}
+use Rattle.layout.specs.Held.{facing}
+use Rattle.layout.proofs.Clean.{onSide, Node, root, below, point}
 
--- the tree of which it is a layout
+-- The tree of which it is a layout.
 unfoldable pub shape : Layout → Tree
 shape blank = none
 shape (placed k P a b) = node k (shape a) (shape b)
 
--- a node is in row j
-pub data Row (j : ℕ) : Layout → Type 0 where
-  row-here : {k : ℕ} {P : Point} {a b : Layout} → P .row ≡ j → Row j (placed k P a b)
-  row-left : {k : ℕ} {P : Point} {a b : Layout} → Row j a → Row j (placed k P a b)
-  row-right : {k : ℕ} {P : Point} {a b : Layout} → Row j b → Row j (placed k P a b)
+abbrev pub count : Layout → ℕ
+count L = size (shape L)
+
+-- A node is in row j.
+abbrev pub HoldsRow : Layout → ℕ → Type 0
+HoldsRow L j = (n : Node L) × (point n .row ≡ j)
 
 pub mirror-twice : (t : Tree) → mirror (mirror t) ≡ t
 unfolding mirror
@@ -28,6 +31,11 @@ unfolding mirror size
 size-mirror none = refl
 size-mirror (node k a b) = omega (arith, size-mirror a, size-mirror b)
 
+pub size-facing : (s : Side) (t : Tree) → size (facing s t) ≡ size t
+unfolding facing
+size-facing left t = refl
+size-facing right t = size-mirror t
+
 pub shape-shift : (e t : ℕ) (L : Layout) → shape (shift e t L) ≡ shape L
 unfolding shift shape
 shape-shift e t blank = refl
@@ -38,24 +46,23 @@ unfolding flip shape mirror
 shape-flip e blank = refl
 shape-flip e (placed k P a b) = ap₂ (node k) (shape-flip e b) (shape-flip e a)
 
-pub row-shift : (e t j i : ℕ) → t + i ≡ j → {L : Layout} → Row i L → Row j (shift e t L)
-unfolding shift
-row-shift e t j i h (row-here {P} f) = row-here {P = at (e + P .column) (t + P .row)} (omega arith)
-row-shift e t j i h (row-left s) = row-left (row-shift e t j i h s)
-row-shift e t j i h (row-right s) = row-right (row-shift e t j i h s)
-
-pub row-flip : (e : ℕ) {j : ℕ} {L : Layout} → Row j L → Row j (flip e L)
-unfolding flip
-row-flip e (row-here f) = row-here f
-row-flip e (row-left s) = row-right (row-flip e s)
-row-flip e (row-right s) = row-left (row-flip e s)
-
--- how many nodes
-abbrev pub count : Layout → ℕ
-count L = size (shape L)
-
 pub count-shift : (e t : ℕ) (L : Layout) → count (shift e t L) ≡ count L
 count-shift e t L = ap size (shape-shift e t L)
 
 pub count-flip : (e : ℕ) (L : Layout) → count (flip e L) ≡ count L
 count-flip e L = ap size (shape-flip e L) ∙ size-mirror (shape L)
+
+pub row-below : {k : ℕ} {P : Point} {a b : Layout} {j : ℕ} (s : Side) → HoldsRow (onSide s a b) j → HoldsRow (placed k P a b) j
+row-below s h = (below s (h .0), h .1)
+
+pub row-shift : (e t : ℕ) {L : Layout} (n : Node L) → HoldsRow (shift e t L) (t + point n .row)
+unfolding shift
+row-shift e t root = (root, refl)
+row-shift e t (below left n) = row-below left (row-shift e t n)
+row-shift e t (below right n) = row-below right (row-shift e t n)
+
+pub row-flip : (e : ℕ) {L : Layout} (n : Node L) → HoldsRow (flip e L) (point n .row)
+unfolding flip
+row-flip e root = (root, refl)
+row-flip e (below left n) = row-below right (row-flip e n)
+row-flip e (below right n) = row-below left (row-flip e n)

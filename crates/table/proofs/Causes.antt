@@ -2,7 +2,7 @@
 use mathlib.Core.Path.{_≡_}
 use mathlib.Core.Logic.{_⊎_, inl, inr, ⊎-elim, ⊎-map}
 use mathlib.Core.Bool.{Bool, true, false, not, _&&_, _||_}
-use mathlib.Core.List.{List, _∷_}
+use mathlib.Core.List.{List}
 use Prim.Native.Nat.{ℕ, zero, suc, _+_, _%_, _≤_, _<_}
 use native.Mathlib.Omega.{arith}
 use lib.Dec.{T, eqb, ltb, eqb→eq}
@@ -12,7 +12,7 @@ use Rattle.table.specs.Lists.{any, member, repeats, count}
 use Rattle.table.specs.Table.{Side, left, right, records, nextOf, leftOf, rightOf, linkOf, rootOf, chain}
 use Rattle.table.specs.Tree.{size, nodes, descend, tree}
 use Rattle.table.specs.Refusal.{badLength, beyond, badChain, stray, badLinks, links, named}
-use Rattle.table.proofs.Lists.{T-false, passes, or-false, any-false, same, Alike, alike, member-cons, member-count, Distinct, Within, length-within, length-below, links-within}
+use Rattle.table.proofs.Lists.{passes, or-false, any-false, same, Alike, alike, member-count, Distinct, Within, length-within, length-between, links-within}
 use Rattle.table.proofs.Chain.{Chained, follow-zero, nodes-zero, descend-more, length-nodes, nodes-deeper, namer}
 
 -- What is false where a does not pass.
@@ -41,10 +41,7 @@ module _ (t : List ℕ) where
       omega (arith, leb-false (records t) k (any-false (beyond t) (chain t) .0 (or-false (any (beyond t) (chain t)) (repeats (chain t)) .0 e .0) k h))
 
   pub sound-length : badLength t ≡ false → badChain t ≡ false → length (chain t) < records t
-  unfolding repeats
-  sound-length l e =
-      length-below (records t) (0 ∷ chain t) (or-false (member 0 (chain t)) (repeats (chain t)) .1 (T-false (member 0 (chain t)) .0 (λ h. omega (arith, sound-within e 0 h)), sound-distinct e))
-      (λ k h. ⊎-elim (λ (z : k ≡ 0). omega (arith, length-bounds l)) (λ (m : Chained t k). sound-within e k m .1) (member-cons k 0 (chain t) .0 h))
+  sound-length l e = length-between (records t) (chain t) (length-bounds l .0) (sound-distinct e) (sound-within e)
 
   -- Without 4: the links of chained records are zero or chained.
   pub sound-links : badLinks t ≡ false → (k : ℕ) (s : Side) → Chained t k → (linkOf t s k ≡ 0) ⊎ Chained t (linkOf t s k)

@@ -2,3 +2,13 @@ pub mod Lists
 pub mod Chain
 pub mod Causes
 pub mod Accepted
+pub mod Form
+pub mod Walking
+pub mod Scan
+pub mod Tally
+pub mod Zeros
+pub mod Order
+pub mod Reached
+pub mod Sizes
+pub mod Rooting
+pub mod Answer

@@ -201,6 +201,13 @@ member-upto k (suc n) h = member-cons k n (upto n) .1 (⊎-map (λ (e : (k ≡ n
 pub length-below : (n : ℕ) (ks : List ℕ) → Distinct ks → ((k : ℕ) → T (member k ks) → k < n) → length ks ≤ n
 length-below n ks d h = omega (arith, length-upto n, length-within ks (upto n) (within ks (upto n) d (λ k m. member-upto k n (h k m))))
 
+-- And of numbers from 1 on, fewer.
+pub length-between : (n : ℕ) (ks : List ℕ) → 1 ≤ n → Distinct ks → ((k : ℕ) → T (member k ks) → (1 ≤ k) × (k < n)) → length ks < n
+unfolding repeats
+length-between n ks s d h =
+    length-below n (0 ∷ ks) (or-false (member 0 ks) (repeats ks) .1 (T-false (member 0 ks) .0 (λ m. omega (arith, h 0 m)), d))
+    (λ k m. ⊎-elim (λ (e : k ≡ 0). omega arith) (λ (g : T (member k ks)). h k g .1) (member-cons k 0 ks .0 m))
+
 -- How often records name x as a child is a sum over the records.
 pub count-links : (t : List ℕ) (x : ℕ) (ks : List ℕ) → count x (links t ks) ≡ sum (λ k. same x (leftOf t k) + same x (rightOf t k)) ks
 unfolding links count sum

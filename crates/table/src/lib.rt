@@ -1,1 +1,118 @@
 // Reading a table of records: the refusals, the chain and the sizes of the subtrees.
+mod links;
+mod naming;
+mod reach;
+mod walk;
+pub mod words;
+
+use crate::links::marked;
+use crate::links::strays;
+use crate::naming::misnamed;
+use crate::reach::reaches;
+use crate::walk::walk;
+use crate::words::left;
+use crate::words::right;
+use crate::words::tag;
+ghost use mathlib.Core.Path.{_≡_};
+ghost use mathlib.Core.Bool.{cond, false};
+ghost use lib.ListN.{length};
+ghost use Rattle.table.specs.Refusal.{badLength, badHead, badLinks, refusal};
+ghost use Rattle.table.specs.Reading.{ReadOf};
+ghost use Rattle.table.specs.Steps.{Listed, Marked, Grown};
+
+// A refusal, or 0 and the number of nodes.
+pub struct Reading {
+    pub refusal: u16,
+    pub nodes: usize,
+}
+
+pub fn refused(cause: u16) -> Reading
+    ensures { λ r. ⌜ r ≡ record { refusal = cause; nodes = 0 } ⌝ }
+{
+    Reading {
+        refusal: cause,
+        nodes: 0,
+    }
+}
+
+// Causes 1 and 2.
+fn shape(table: &[u8]) -> u16
+    ensures { λ r. ⌜ r ≡ cond (badLength (now (table .entry))) 1 (cond (badHead (now (table .entry))) 2 0) ⌝ }
+{
+    let bytes = table.len();
+    if bytes == 0 {
+        return 1;
+    }
+    if bytes % 8 != 0 {
+        return 1;
+    }
+    if 32776 < bytes {
+        return 1;
+    }
+    if right(table, 0) != 0 {
+        return 2;
+    }
+    if tag(table, 0) != 0 {
+        return 2;
+    }
+    0
+}
+
+// Whether the records of the chain make a tree; then fills the sizes of its subtrees.
+fn grow(table: &[u8], chain: &[u16], nodes: usize, mark: &[u16], sizes: &mut [u16]) -> bool
+    requires { ⌜ Listed (now table) nodes (now chain) ⌝ }
+    requires { ⌜ Marked (now table) (now mark) ⌝ }
+    requires { ⌜ badLinks (now table) ≡ false ⌝ }
+    requires { ⌜ length (now sizes) ≡ 4097 ⌝ }
+    ensures { λ r. ⌜ Grown (now (table .entry)) r (now (sizes .exit)) ⌝ }
+{
+    sizes[0] = 0;
+    let root = left(table, 0);
+    if root == 0 {
+        return nodes == 0;
+    }
+    if !marked(mark, root) {
+        return false;
+    }
+    if misnamed(table, chain, nodes, root) {
+        return false;
+    }
+    reaches(table, nodes, sizes)
+}
+
+// Causes 1 to 6. Of an accepted table, chain lists the nodes and sizes has the size of the subtree at each.
+pub fn read(table: &[u8], places: usize, chain: &mut [u16], sizes: &mut [u16]) -> Reading
+    requires { ⌜ (length (now chain) ≡ 4097) × (length (now sizes) ≡ 4097) ⌝ }
+    ensures { λ r. ⌜ ReadOf (now (table .entry)) places r (now (chain .exit)) (now (sizes .exit)) ⌝ }
+{
+    let unfit = shape(table);
+    if unfit != 0 {
+        return refused(unfit);
+    }
+    let mut mark = [0u16; 4097];
+    let walked = walk(table, chain, &mut mark);
+    if walked.refusal != 0 {
+        return walked;
+    }
+    let nodes = walked.nodes;
+    if strays(table, chain, nodes, &mark) {
+        return refused(4);
+    }
+    if !grow(table, chain, nodes, &mark, sizes) {
+        return refused(5);
+    }
+    if places < 2 * (table.len() / 8) {
+        return refused(6);
+    }
+    Reading { refusal: 0, nodes }
+}
+
+// Why a table with this many placements is refused; 0 if it is not.
+pub fn refusal_of(table: &[u8], places: usize) -> u16
+    ensures { λ r. ⌜ r ≡ refusal (now (table .entry)) places ⌝ }
+{
+    let mut chain = [0u16; 4097];
+    let mut sizes = [0u16; 4097];
+    let reading = read(table, places, &mut chain, &mut sizes);
+    reading.refusal
+}

@@ -3,3 +3,10 @@ pub mod Unique
 pub mod Ends
 pub mod Clashes
 pub mod Decide
+pub mod Search
+pub mod Rows
+pub mod Nodes
+pub mod Listing
+pub mod Parent
+pub mod Turning
+pub mod Places

@@ -10,10 +10,11 @@ use lib.Seq.{getD-set-same, getD-set-other}
 use Rattle.segment.specs.declared.Point.{Point}
 use Rattle.segment.specs.Segment.{at}
 use Rattle.table.specs.Lists.{count}
+use Rattle.table.specs.Table.{left, right}
 use Rattle.table.specs.Tree.{nodes}
 use Rattle.table.proofs.Lists.{same, same-one, count-append}
 use Rattle.layout.specs.Layout.{Layout, blank, placed}
-use Rattle.layout.proofs.Clean.{Node, root, left-node, right-node, point, recordOf}
+use Rattle.layout.proofs.Clean.{Node, root, below, point, recordOf}
 use Rattle.layout.proofs.Rows.{shape}
 use Rattle.drawing.specs.Answer.{store}
 
@@ -40,8 +41,8 @@ times-placed k j P a b = ap (λ (n : ℕ). same k j + n) (count-append k (nodes 
 
 pub times-node : (L : Layout) (n : Node L) → 1 ≤ times (recordOf n) L
 times-node (placed j P a b) root = omega (arith, times-placed j j P a b, same-one j j refl)
-times-node (placed j P a b) (left-node n) = omega (arith, times-placed (recordOf n) j P a b, times-node a n)
-times-node (placed j P a b) (right-node n) = omega (arith, times-placed (recordOf n) j P a b, times-node b n)
+times-node (placed j P a b) (below left n) = omega (arith, times-placed (recordOf n) j P a b, times-node a n)
+times-node (placed j P a b) (below right n) = omega (arith, times-placed (recordOf n) j P a b, times-node b n)
 
 -- An entry that is none of the layout's.
 abbrev pub Outside : ℕ → Layout → Type 0
@@ -77,9 +78,9 @@ store-point (placed k P a b) p once room root =
     kept-point b (store a (pair p k P)) k (omega (arith, once k, times-placed k k P a b, same-one k k refl)) ∙
     (kept-point a (pair p k P) k (omega (arith, once k, times-placed k k P a b, same-one k k refl)) ∙
     pair-point p k P (room k (omega (arith, times-placed k k P a b, same-one k k refl))))
-store-point (placed k P a b) p once room (left-node n) =
+store-point (placed k P a b) p once room (below left n) =
     kept-point b (store a (pair p k P)) (recordOf n) (omega (arith, once (recordOf n), times-placed (recordOf n) k P a b, times-node a n)) ∙
     store-point a (pair p k P) (λ j. omega (arith, once j, times-placed j k P a b)) (λ j h. simp length-set (room j (omega (arith, times-placed j k P a b)))) n
-store-point (placed k P a b) p once room (right-node n) =
+store-point (placed k P a b) p once room (below right n) =
     store-point b (store a (pair p k P)) (λ j. omega (arith, once j, times-placed j k P a b))
     (λ j h. rw (store-length a (pair p k P)) (simp length-set (room j (omega (arith, times-placed j k P a b))))) n

@@ -1,0 +1,277 @@
+-- The drawing as a program makes it is the drawing: a subtree on a side (`hung-law`), and the whole tree, held by its left edge at column 0 (`draw-lay`). The first row below
+-- it is counted along the spine (`bottom-law`), and every column that is needed on the way is there (`rooms-law`).
+use mathlib.Core.Path.{_≡_, refl, ap, sym, subst, _∙_}
+use mathlib.Core.Bool.{true, false}
+use mathlib.Core.List.{List, [], _∷_, map}
+use Prim.Native.Nat.{ℕ, suc, _+_, _≤_, max}
+use native.Mathlib.Omega.{arith}
+use Rattle.segment.specs.Segment.{at}
+use Rattle.table.specs.Table.{Side, left, right}
+use Rattle.table.specs.Tree.{Tree, none, node, size}
+use Rattle.layout.specs.Layout.{Layout, blank, placed, width, height, shift, flip}
+use Rattle.layout.specs.Spine.{SpineNode, hangs, Role, knee, ordinary, switch, opposite, seen, roleAfter, handAfter, assigned, rolesAfter}
+use Rattle.layout.specs.Drawing.{Part, part, hang, widest, join, Rest, place, draw}
+use Rattle.layout.specs.Held.{facing, inwards, put, hungOn, heightOn, widthOn, spineOn, roleNext, far, lay, rolesOn, widestOn, Frame, Fit}
+use Rattle.layout.proofs.Motions.{width-shift, width-shifted, width-flip}
+use Rattle.layout.proofs.Rows.{shape, count, size-facing}
+use Rattle.layout.proofs.Steps.{wide-join}
+use Rattle.layout.proofs.Heights.{last}
+use Rattle.layout.proofs.Spines.{spineTree, Light, light-end, light-node, light-spine, light-seen, size-seen, Goes, goes-on, parts}
+use Rattle.layout.proofs.Whole.{whole, draw-rows}
+use Rattle.layout.proofs.Theorem.{promise}
+use Rattle.layout.proofs.Sides.{sideOn, spine-on, partsOn, parts-on, draw-on, Exact, put-flip, held-join, same-node}
+
+-- ---- a spine as it stands, and its parts
+
+-- From a spine node of the hand a and the role o on: the parts of the nodes.
+data Told : Side → Role → List SpineNode → List Part → Type 0 where
+  ended : {a : Side} {o : Role} → Told a o [] []
+  told : {a s : Side} {o : Role} {k : ℕ} {S : Tree} {ls : List SpineNode} {ps : List Part} → Goes o ls → Told (handAfter o a) (roleNext (handAfter o a) o ls) ls ps →
+      Told a o (hangs k s S ∷ ls) (part o k (sideOn a s) (draw (facing a S)) ∷ ps)
+
+tell-one : (a : Side) (o : Role) (l : SpineNode) {ls : List SpineNode} {ps : List Part} → Goes o ls → Told (handAfter o a) (roleNext (handAfter o a) o ls) ls ps →
+    Told a o (l ∷ ls) (hang draw (assigned o (seen a l)) ∷ ps)
+unfolding hang seen sideOn facing
+tell-one left o (hangs k s S) g z = told g z
+tell-one right o (hangs k s S) g z = told g z
+
+tell : {n : ℕ} (s : Side) (o : Role) {ls : List SpineNode} → Light n ls → Told (handAfter o s) (roleNext (handAfter o s) o ls) ls (parts draw s o ls)
+unfolding rolesAfter roleNext
+tell s o light-end = ended
+tell s o (light-node {l} {ls} f g i) =
+    let s′ = handAfter o s in
+    let o′ = roleAfter o (seen s′ l) in
+    tell-one s′ o′ l (goes-on o (seen s′ l) ls (omega (arith, size-seen s′ l))) (tell s′ o′ i)
+
+told-on : {n : ℕ} (s : Side) {ls : List SpineNode} → Light n ls → Told s knee ls (map (hang draw) (rolesOn s ls))
+unfolding rolesOn handAfter
+told-on s light-end = ended
+told-on s (light-node {l} f g i) = tell-one s knee l tt (tell s knee i)
+
+light-on : (s : Side) (S : Tree) → Light (size (facing s S)) (spineOn s S)
+light-on s S = light-seen (size (facing s S)) s (spineOn s S) (subst (Light (size (facing s S))) (spine-on s S) (light-spine (size (facing s S)) (facing s S) (omega arith)))
+
+-- ---- rows and columns along a spine
+
+-- The first row below what is drawn from a spine node on, what is pending too, as a program counts it.
+unfoldable pub bottom : (a : Side) → Role → (H r p : ℕ) → List SpineNode → ℕ
+bottom a o H r p [] = H + p + 1
+bottom a knee H r p (hangs k s S ∷ ls) = elim (far a s) [
+  | true ↦ bottom a (roleNext a knee ls) (max H r + heightOn a S) (max H r + heightOn a S + 1) 0 ls
+  | false ↦ bottom a (roleNext a knee ls) (max H r) (max H r + 1) (heightOn a S) ls
+]
+bottom a ordinary H r p (hangs k s S ∷ ls) = bottom a (roleNext a ordinary ls) (r + heightOn a S) (r + max 1 (heightOn a S)) p ls
+bottom a switch H r p (hangs k s S ∷ ls) = bottom (opposite a) (roleNext (opposite a) switch ls) (r + heightOn a S + p) (r + 1) 0 ls
+
+-- The w columns from the edge e of a side inwards are among the columns 0 to B − 1.
+abbrev pub Inside : (B : ℕ) → Side → (e w : ℕ) → Type 0
+Inside B left e w = e + w ≤ B
+Inside B right e w = (w ≤ suc e) × (suc e ≤ B)
+
+-- So are those of each spine node from here on, and of what hangs from it. At a switch the whole frame is, so that the other hand's edge is w = W + 2 columns inwards.
+pub data Rooms (B W : ℕ) : Side → (e f : ℕ) → Role → List SpineNode → Type 0 where
+  no-rooms : {a : Side} {e f : ℕ} {o : Role} → Rooms B W a e f o []
+  knee-room : {a s : Side} {e f k : ℕ} {S : Tree} {ls : List SpineNode} → Inside B a e (1 + widthOn a S) → Rooms B W a e f (roleNext a knee ls) ls → Rooms B W a e f knee (hangs k s S ∷ ls)
+  ordinary-room : {a s : Side} {e f k : ℕ} {S : Tree} {ls : List SpineNode} → Inside B a e (2 + widthOn a S) → Rooms B W a e f (roleNext a ordinary ls) ls → Rooms B W a e f ordinary (hangs k s S ∷ ls)
+  switch-room : {a s : Side} {e f k : ℕ} {S : Tree} {ls : List SpineNode} → widthOn a S ≤ W → Inside B a e (W + 3) → Exact a e f (W + 2) →
+      Rooms B W (opposite a) f e (roleNext (opposite a) switch ls) ls → Rooms B W a e f switch (hangs k s S ∷ ls)
+
+pub inside-less : (B : ℕ) (a : Side) (e : ℕ) {v w : ℕ} → v ≤ w → Inside B a e w → Inside B a e v
+inside-less B left e i h = omega arith
+inside-less B right e i h = (omega arith, omega arith)
+
+-- ---- the frame holds what is drawn
+
+place-wide : (W H r p : ℕ) (ps : List Part) → widest ps ≤ W → width (place W H r p ps .drawn) ≤ W + 3
+unfolding place widest width
+place-wide W H r p [] w = omega arith
+place-wide W H r p (part knee k left D ∷ ps) w = omega (arith, place-wide W (max H r) (max H r + 1) (height D) ps (omega arith), width-shift 1 (place W (max H r) (max H r + 1) (height D) ps .under) D)
+place-wide W H r p (part knee k right D ∷ ps) w = omega (arith, place-wide W (max H r + height D) (max H r + height D + 1) 0 ps (omega arith), width-shift 1 (max H r + 1) D)
+place-wide W H r p (part ordinary k s D ∷ ps) w =
+    let N = place W (r + height D) (r + max 1 (height D)) p ps .drawn in
+    omega (arith, wide-join k (at 1 r) s (shift 2 (r + 1) D) N, place-wide W (r + height D) (r + max 1 (height D)) p ps (omega arith), width-shift 2 (r + 1) D)
+place-wide W H r p (part switch k s D ∷ ps) w =
+    let N = place W (r + height D + p) (r + 1) 0 ps .drawn in
+    omega (arith, wide-join k (at 1 r) s (shift 1 (r + 1) D) (flip (W + 2) N), width-flip (W + 2) N, width-shift 1 (r + 1) D)
+
+-- After a switch comes a knee, in column 0, so that the flipped rest is as wide as the frame.
+turned-wide : (W H r p : ℕ) {a : Side} {ls : List SpineNode} {ps : List Part} → 1 ≤ size (spineTree ls) → Told a (roleNext a switch ls) ls ps → W + 3 ≤ width (flip (W + 2) (place W H r p ps .drawn))
+unfolding place flip width roleNext roleAfter sideOn opposite spineTree size
+turned-wide W H r p g ended = absurd (omega arith)
+turned-wide W H r p g (told {a = left} {s = left} h z) = omega arith
+turned-wide W H r p g (told {a = left} {s = right} h z) = omega arith
+turned-wide W H r p g (told {a = right} {s = left} h z) = omega arith
+turned-wide W H r p g (told {a = right} {s = right} h z) = omega arith
+
+-- The other hand's edge, where the frame is among the columns; the frame from there.
+exact : (B W : ℕ) (a : Side) (e f : ℕ) → Frame a e f (W + 2) → Inside B a e (W + 3) → Exact a e f (W + 2)
+exact B W left e f fr i = fr
+exact B W right e f fr i = fr (omega arith)
+
+frame-back : (W : ℕ) (a : Side) (e f : ℕ) → Exact a e f (W + 2) → Frame (opposite a) f e (W + 2)
+unfolding opposite
+frame-back W left e f x = λ i. x
+frame-back W right e f x = x
+
+inside-back : (B W : ℕ) (a : Side) (e f : ℕ) → Exact a e f (W + 2) → Inside B a e (W + 3) → Inside B (opposite a) f (W + 3)
+unfolding opposite
+inside-back B W left e f x i = (omega arith, omega arith)
+inside-back B W right e f x i = omega arith
+
+-- ---- laying is placing, held by the hand's edge
+
+record Laid (B W t : ℕ) (a : Side) (e f : ℕ) (o : Role) (H′ r′ p : ℕ) (ls : List SpineNode) (H r : ℕ) (ps : List Part) : Type 0 where
+  drawn : lay a e f o H′ r′ p ls .drawn ≡ put a e t (place W H r p ps .drawn)
+  under : lay a e f o H′ r′ p ls .under ≡ t + place W H r p ps .under
+  lowest : bottom a o H′ r′ p ls ≡ t + suc (last H r p ps)
+  rooms : Rooms B W a e f o ls
+
+edge-column : (a : Side) (e : ℕ) → e ≡ inwards a e 0
+unfolding inwards
+edge-column left e = omega arith
+edge-column right e = omega arith
+
+module _ (B W t : ℕ) where
+  laid : (a : Side) (e f w : ℕ) → Frame a e f (W + 2) → Inside B a e w → {o : Role} {ls : List SpineNode} {ps : List Part} → Told a o ls ps → (H H′ r r′ p : ℕ) → H′ ≡ t + H → r′ ≡ t + r →
+      widest ps ≤ W → width (place W H r p ps .drawn) ≤ w → Laid B W t a e f o H′ r′ p ls H r ps
+  unfolding lay bottom last heightOn widthOn place put join far sideOn handAfter opposite widest width
+  laid a e f w fr i ended H H′ r r′ p h j l m = record { drawn = refl; under = omega arith; lowest = omega arith; rooms = no-rooms }
+  laid a e f w fr i (told {s} {o = ordinary} {k} {S} {ps} g z) H H′ r r′ p h j l m =
+      let D = draw (facing a S) in
+      let N = place W (r + height D) (r + max 1 (height D)) p ps .drawn in
+      let v = wide-join k (at 1 r) (sideOn a s) (shift 2 (r + 1) D) N in
+      let n = laid a e f w fr i z (r + height D) (r′ + height D) (r + max 1 (height D)) (r′ + max 1 (height D)) p (omega arith) (omega arith) (omega arith) (omega (arith, v)) in
+      record {
+        drawn = held-join a e t k 1 r 2 (r + 1) s S N refl j (omega arith) (n .drawn);
+        under = n .under;
+        lowest = n .lowest;
+        rooms = ordinary-room (inside-less B a e (width-shifted 2 (r + 1) w D (omega (arith, v)) (omega (arith, v))) i) (n .rooms);
+      }
+  laid a e f w fr i (told {s} {o = switch} {k} {S} {ps} g z) H H′ r r′ p h j l m =
+      let D = draw (facing a S) in
+      let N = place W (r + height D + p) (r + 1) 0 ps .drawn in
+      let v = wide-join k (at 1 r) (sideOn a s) (shift 1 (r + 1) D) (flip (W + 2) N) in
+      let i′ = inside-less B a e {v = W + 3} (omega (arith, v, turned-wide W (r + height D + p) (r + 1) 0 g z)) i in
+      let x = exact B W a e f fr i′ in
+      let wD : widthOn a S ≤ W = omega arith in
+      let wN = place-wide W (r + height D + p) (r + 1) 0 ps (omega arith) in
+      let n = laid (opposite a) f e (W + 3) (frame-back W a e f x) (inside-back B W a e f x i′) z (r + height D + p) (r′ + height D + p) (r + 1) (r′ + 1) 0 (omega arith) (omega arith) (omega arith) wN in
+      record {
+        drawn = held-join a e t k 1 r 1 (r + 1) s S (flip (W + 2) N) refl j (omega arith) (n .drawn ∙ sym (put-flip a e f (W + 2) t x N (omega arith)));
+        under = omega arith;
+        lowest = n .lowest;
+        rooms = switch-room wD i′ x (n .rooms);
+      }
+  laid left e f w fr i (told {s = left} {o = knee} {k} {S} {ps} g z) H H′ r r′ p h j l m =
+      let D = draw (facing left S) in
+      let N = place W (max H r) (max H r + 1) (height D) ps in
+      let n = laid left e f w fr i z (max H r) (max H′ r′) (max H r + 1) (max H′ r′ + 1) (height D) (omega arith) (omega arith) (omega arith) (omega arith) in
+      record {
+        drawn = held-join left e t k 0 r 1 (N .under) left S (N .drawn) (edge-column left e) j (n .under) (n .drawn);
+        under = n .under;
+        lowest = n .lowest;
+        rooms = knee-room (inside-less B left e (width-shifted 1 (N .under) w D (omega arith) (omega arith)) i) (n .rooms);
+      }
+  laid right e f w fr i (told {s = right} {o = knee} {k} {S} {ps} g z) H H′ r r′ p h j l m =
+      let D = draw (facing right S) in
+      let N = place W (max H r) (max H r + 1) (height D) ps in
+      let n = laid right e f w fr i z (max H r) (max H′ r′) (max H r + 1) (max H′ r′ + 1) (height D) (omega arith) (omega arith) (omega arith) (omega arith) in
+      record {
+        drawn = held-join right e t k 0 r 1 (N .under) right S (N .drawn) (edge-column right e) j (n .under) (n .drawn);
+        under = n .under;
+        lowest = n .lowest;
+        rooms = knee-room (inside-less B right e (width-shifted 1 (N .under) w D (omega arith) (omega arith)) i) (n .rooms);
+      }
+  laid left e f w fr i (told {s = right} {o = knee} {k} {S} {ps} g z) H H′ r r′ p h j l m =
+      let D = draw (facing left S) in
+      let N = place W (max H r + height D) (max H r + height D + 1) 0 ps in
+      let n = laid left e f w fr i z (max H r + height D) (max H′ r′ + height D) (max H r + height D + 1) (max H′ r′ + height D + 1) 0 (omega arith) (omega arith) (omega arith) (omega arith) in
+      record {
+        drawn = held-join left e t k 0 r 1 (max H r + 1) right S (N .drawn) (edge-column left e) j (omega arith) (n .drawn);
+        under = n .under;
+        lowest = n .lowest;
+        rooms = knee-room (inside-less B left e (width-shifted 1 (max H r + 1) w D (omega arith) (omega arith)) i) (n .rooms);
+      }
+  laid right e f w fr i (told {s = left} {o = knee} {k} {S} {ps} g z) H H′ r r′ p h j l m =
+      let D = draw (facing right S) in
+      let N = place W (max H r + height D) (max H r + height D + 1) 0 ps in
+      let n = laid right e f w fr i z (max H r + height D) (max H′ r′ + height D) (max H r + height D + 1) (max H′ r′ + height D + 1) 0 (omega arith) (omega arith) (omega arith) (omega arith) in
+      record {
+        drawn = held-join right e t k 0 r 1 (max H r + 1) left S (N .drawn) (edge-column right e) j (omega arith) (n .drawn);
+        under = n .under;
+        lowest = n .lowest;
+        rooms = knee-room (inside-less B right e (width-shifted 1 (max H r + 1) w D (omega arith) (omega arith)) i) (n .rooms);
+      }
+
+-- ---- the laws
+
+-- The spine of S, drawn on the side s from the row t on.
+module _ (B : ℕ) (s : Side) (e f t : ℕ) (S : Tree) (fr : Frame s e f (widestOn s S + 2)) (i : Inside B s e (widthOn s S)) where
+  all-laid : Laid B (widestOn s S) t s e f knee t t 0 (spineOn s S) 0 0 (partsOn s S)
+  unfolding widestOn widthOn
+  all-laid = laid B (widestOn s S) t s e f (widthOn s S) fr i (told-on s (light-on s S)) 0 t 0 t 0 (omega arith) (omega arith) (omega arith) (omega (arith, ap width (draw-on s S)))
+
+  pub rooms-law : Rooms B (widestOn s S) s e f knee (spineOn s S)
+  rooms-law = all-laid .rooms
+
+-- What hangs from a node fits, and is inside, where it is held.
+pub hung-inside : (B : ℕ) (a : Side) (e c w : ℕ) → Inside B a e (c + w) → Inside B a (inwards a e c) w
+unfolding inwards
+hung-inside B left e c w i = omega arith
+hung-inside B right e c w i = (omega arith, omega arith)
+
+pub inside-fits : (B : ℕ) (a : Side) (e : ℕ) (L : Layout) → Inside B a e (width L) → Fit a e L
+inside-fits B left e L i = tt
+inside-fits B right e L i = i .0
+
+some-inside : (s : Side) (e : ℕ) (L : Layout) → Fit s e L → Inside (e + suc (width L)) s e (width L)
+some-inside left e L h = omega arith
+some-inside right e L h = (h, omega arith)
+
+pub hung-law : (s : Side) (e f t : ℕ) (S : Tree) → Frame s e f (widestOn s S + 2) → Fit s e (draw (facing s S)) → hungOn s e t S ≡ lay s e f knee t t 0 (spineOn s S) .drawn
+unfolding hungOn widestOn widthOn
+hung-law s e f t S fr fit = ap (put s e t) (draw-on s S) ∙ sym (all-laid (e + suc (width (draw (facing s S)))) s e f t S fr (some-inside s e (draw (facing s S)) fit) .drawn)
+
+put-home : (L : Layout) → put left 0 0 L ≡ L
+unfolding put
+put-home blank = refl
+put-home (placed k P a b) = same-node (omega arith) (omega arith) (put-home a) (put-home b)
+
+-- The whole tree is held by its left edge at column 0.
+pub draw-hung : (t : Tree) → draw t ≡ hungOn left 0 0 t
+unfolding hungOn facing
+draw-hung t = sym (put-home (draw t))
+
+pub draw-lay : (t : Tree) → draw t ≡ lay left 0 (widestOn left t + 2) knee 0 0 0 (spineOn left t) .drawn
+draw-lay t = draw-hung t ∙ hung-law left 0 (widestOn left t + 2) 0 t (omega arith) tt
+
+pub height-size : (s : Side) (S : Tree) → heightOn s S ≤ size S
+unfolding heightOn
+height-size s S = omega (arith, promise (facing s S) .short, size-facing s S)
+
+-- A frame with room.
+record Framed (s : Side) (w v : ℕ) : Type 0 where
+  e : ℕ
+  f : ℕ
+  B : ℕ
+  frame : Frame s e f w
+  inside : Inside B s e v
+
+framed : (s : Side) (w v : ℕ) → Framed s w v
+framed left w v = record { e = 0; f = w; B = v; frame = omega arith; inside = omega arith }
+framed right w v = record { e = v + w; f = v; B = suc (v + w); frame = λ h. refl; inside = (omega arith, omega arith) }
+
+some-height : (L : Layout) → 1 ≤ count L → 1 ≤ height L
+unfolding shape size height
+some-height blank h = omega arith
+some-height (placed k P a b) h = omega arith
+
+-- The first row below the drawing of a tree on a side, from the row t on.
+pub bottom-law : (s : Side) (t : ℕ) (S : Tree) → 1 ≤ size S → bottom s knee t t 0 (spineOn s S) ≡ t + heightOn s S
+unfolding heightOn
+bottom-law s t S h =
+    let z = framed s (widestOn s S + 2) (widthOn s S) in
+    let r = draw-rows (facing s S) in
+    let n = all-laid (z .B) s (z .e) (z .f) t S (z .frame) (z .inside) in
+    let c = some-height (draw (facing s S)) (omega (arith, ap size (promise (facing s S) .same), size-facing s S)) in
+    omega (arith, n .lowest, ap (last 0 0 0) (parts-on s S), r .fits, r .least (height (draw (facing s S))) (omega arith) c)

@@ -1,0 +1,147 @@
+-- A drawing on a side, from the tree as it stands: its spine (`spine-on`), its parts (`parts-on`, `draw-on`). A drawing held by its right edge is that of the
+-- mirror image, flipped and shifted (`put-held`).
+use mathlib.Core.Path.{_≡_, refl, ap, sym, subst, subst₂, _∙_}
+use mathlib.Core.Bool.{Bool, true, false}
+use mathlib.Core.List.{List, [], _∷_, map}
+use Prim.Native.Nat.{ℕ, suc, _+_, _-_, _≤_}
+use native.Mathlib.Omega.{arith}
+use lib.Dec.{leb}
+use Rattle.segment.specs.Segment.{at}
+use Rattle.table.specs.Table.{Side, left, right}
+use Rattle.table.specs.Tree.{Tree, none, node, size}
+use Rattle.layout.specs.Layout.{Layout, blank, placed, width, shift, flip, mirror}
+use Rattle.layout.specs.Spine.{SpineNode, hangs, spine, Role, knee, ordinary, switch, opposite, seen, roleAfter, handAfter, Assigned, assigned, rolesAfter}
+use Rattle.layout.specs.Drawing.{Part, hang, join, draw}
+use Rattle.layout.specs.Held.{facing, inwards, put, hungOn, spineOn, rolesOn, Fit}
+use Rattle.layout.proofs.Clean.{Clean}
+use Rattle.layout.proofs.Points.{Untangled}
+use Rattle.layout.proofs.Meet.{untangled-clean}
+use Rattle.layout.proofs.Motions.{untangled-shift, untangled-flip}
+use Rattle.layout.proofs.Rows.{mirror-twice, size-mirror}
+use Rattle.layout.proofs.Spines.{parts}
+use Rattle.layout.proofs.Whole.{drawn, whole, draw-parts}
+
+-- ---- the spine and its roles, from the tree as it stands
+
+-- A side as another one sees it.
+unfoldable pub sideOn : Side → Side → Side
+sideOn left s = s
+sideOn right s = opposite s
+
+pub spine-on : (s : Side) (t : Tree) → spine (facing s t) ≡ map (seen s) (spineOn s t)
+unfolding spine spineOn facing mirror seen opposite
+spine-on left none = refl
+spine-on right none = refl
+spine-on left (node k a b) = go (leb (size b) (size a)) (spine-on left a) (spine-on left b)
+  where
+    go : (c : Bool) → spine a ≡ map (seen left) (spineOn left a) → spine b ≡ map (seen left) (spineOn left b) →
+        _≡_ {A = List SpineNode} (elim c [ true ↦ hangs k right b ∷ spine a | false ↦ hangs k left a ∷ spine b ])
+        (map (seen left) (elim c [ true ↦ hangs k right b ∷ spineOn left a | false ↦ hangs k left a ∷ spineOn left b ]))
+    go true h i = ap (λ (ls : List SpineNode). hangs k right b ∷ ls) h
+    go false h i = ap (λ (ls : List SpineNode). hangs k left a ∷ ls) i
+spine-on right (node k a b) = subst₂ (λ (m n : ℕ). _≡_ {A = List SpineNode} (elim (leb m n) [ true ↦ hangs k right (mirror a) ∷ spine (mirror b) | false ↦ hangs k left (mirror b) ∷ spine (mirror a) ])
+    (map (seen right) (elim (leb (size a) (size b)) [ true ↦ hangs k left a ∷ spineOn right b | false ↦ hangs k right b ∷ spineOn right a ])))
+    (sym (size-mirror a)) (sym (size-mirror b)) (go (leb (size a) (size b)) (spine-on right a) (spine-on right b))
+  where
+    go : (c : Bool) → spine (mirror a) ≡ map (seen right) (spineOn right a) → spine (mirror b) ≡ map (seen right) (spineOn right b) →
+        _≡_ {A = List SpineNode} (elim c [ true ↦ hangs k right (mirror a) ∷ spine (mirror b) | false ↦ hangs k left (mirror b) ∷ spine (mirror a) ])
+        (map (seen right) (elim c [ true ↦ hangs k left a ∷ spineOn right b | false ↦ hangs k right b ∷ spineOn right a ]))
+    go true h i = ap (λ (ls : List SpineNode). hangs k right (mirror a) ∷ ls) i
+    go false h i = ap (λ (ls : List SpineNode). hangs k left (mirror b) ∷ ls) h
+
+seen-twice : (u s : Side) (l : SpineNode) → seen s (seen u l) ≡ seen (sideOn u s) l
+unfolding seen sideOn opposite
+seen-twice left s l = refl
+seen-twice right left l = refl
+seen-twice right right (hangs k left t) = ap (hangs k left) (mirror-twice t)
+seen-twice right right (hangs k right t) = ap (hangs k right) (mirror-twice t)
+
+hand-on : (u : Side) (o : Role) (s : Side) → sideOn u (handAfter o s) ≡ handAfter o (sideOn u s)
+unfolding sideOn handAfter
+hand-on left o s = refl
+hand-on right knee s = refl
+hand-on right ordinary s = refl
+hand-on right switch s = refl
+
+roles-seen : (u s : Side) (o : Role) (ls : List SpineNode) → rolesAfter s o (map (seen u) ls) ≡ rolesAfter (sideOn u s) o ls
+unfolding rolesAfter
+roles-seen u s o [] = refl
+roles-seen u s o (l ∷ ls) =
+    heads (seen-twice u (handAfter o s) l ∙ ap (λ (z : Side). seen z l) (hand-on u o s)) (λ o′. roles-seen u (handAfter o s) o′ ls ∙ ap (λ (z : Side). rolesAfter z o′ ls) (hand-on u o s))
+  where
+    heads : {m n : SpineNode} → m ≡ n → ((o′ : Role) → rolesAfter (handAfter o s) o′ (map (seen u) ls) ≡ rolesAfter (handAfter o (sideOn u s)) o′ ls) →
+        _≡_ {A = List Assigned} (assigned (roleAfter o m) m ∷ rolesAfter (handAfter o s) (roleAfter o m) (map (seen u) ls)) (assigned (roleAfter o n) n ∷ rolesAfter (handAfter o (sideOn u s)) (roleAfter o n) ls)
+    heads {n} e h = rw e (ap (λ (rs : List Assigned). assigned (roleAfter o n) n ∷ rs) (h (roleAfter o n)))
+
+first-on : (s : Side) (ls : List SpineNode) → rolesAfter (sideOn s right) switch ls ≡ rolesOn s ls
+unfolding rolesAfter rolesOn sideOn handAfter roleAfter opposite
+first-on s [] = refl
+first-on left (l ∷ ls) = refl
+first-on right (l ∷ ls) = refl
+
+-- The parts of a drawing on a side, and the drawing from them.
+abbrev pub partsOn : Side → Tree → List Part
+partsOn s S = map (hang draw) (rolesOn s (spineOn s S))
+
+pub parts-on : (s : Side) (S : Tree) → parts draw right switch (spine (facing s S)) ≡ partsOn s S
+parts-on s S = ap (map (hang draw)) (ap (rolesAfter right switch) (spine-on s S) ∙ (roles-seen s right switch (spineOn s S) ∙ first-on s (spineOn s S)))
+
+pub draw-on : (s : Side) (S : Tree) → draw (facing s S) ≡ whole (partsOn s S)
+draw-on s S = draw-parts (facing s S) ∙ ap whole (parts-on s S)
+
+-- ---- layouts held by an edge
+
+pub same-node : {k c c′ r r′ : ℕ} {x x′ y y′ : Layout} → c ≡ c′ → r ≡ r′ → x ≡ x′ → y ≡ y′ → placed k (at c r) x y ≡ placed k (at c′ r′) x′ y′
+same-node c r x y = cc
+
+put-shift : (s : Side) (e t i j : ℕ) (L : Layout) → put s e t (shift i j L) ≡ put s (inwards s e i) (t + j) L
+unfolding put shift inwards
+put-shift s e t i j blank = refl
+put-shift left e t i j (placed k P a b) = same-node (omega arith) (omega arith) (put-shift left e t i j a) (put-shift left e t i j b)
+put-shift right e t i j (placed k P a b) = same-node (omega arith) (omega arith) (put-shift right e t i j b) (put-shift right e t i j a)
+
+-- f is the other hand's edge, w columns inwards.
+abbrev pub Exact : Side → (e f w : ℕ) → Type 0
+Exact left e f w = f ≡ e + w
+Exact right e f w = e ≡ f + w
+
+pub put-flip : (s : Side) (e f w t : ℕ) → Exact s e f w → (L : Layout) → width L ≤ suc w → put s e t (flip w L) ≡ put (opposite s) f t L
+unfolding put flip opposite width
+put-flip left e f w t h blank i = refl
+put-flip right e f w t h blank i = refl
+put-flip left e f w t h (placed k P a b) i = same-node (omega arith) refl (put-flip left e f w t h b (omega arith)) (put-flip left e f w t h a (omega arith))
+put-flip right e f w t h (placed k P a b) i = same-node (omega arith) refl (put-flip right e f w t h a (omega arith)) (put-flip right e f w t h b (omega arith))
+
+-- The motions that hold a layout: on the left it is shifted, on the right flipped and shifted.
+unfoldable pub held : Side → ℕ → ℕ → Layout → Layout
+held left e t L = shift e t L
+held right e t L = shift 0 t (flip e L)
+
+pub put-held : (s : Side) (e t : ℕ) (L : Layout) → put s e t L ≡ held s e t L
+unfolding put held shift flip
+put-held left e t blank = refl
+put-held right e t blank = refl
+put-held left e t (placed k P a b) = same-node refl refl (put-held left e t a) (put-held left e t b)
+put-held right e t (placed k P a b) = same-node (omega arith) refl (put-held right e t b) (put-held right e t a)
+
+put-join : (s : Side) (e t k c r : ℕ) (h : Side) (D N : Layout) → put s e t (join k (at c r) (sideOn s h) D N) ≡ join k (at (inwards s e c) (t + r)) h (put s e t D) (put s e t N)
+unfolding put join inwards sideOn opposite
+put-join left e t k c r left D N = refl
+put-join left e t k c r right D N = refl
+put-join right e t k c r left D N = refl
+put-join right e t k c r right D N = refl
+
+-- A spine node of the hand s, with what hangs from it and with the rest.
+pub held-join : (s : Side) (e t k c r i u : ℕ) (h : Side) (S : Tree) (N : Layout) {c′ r′ u′ : ℕ} {n : Layout} → c′ ≡ inwards s e c → r′ ≡ t + r → u′ ≡ t + u → n ≡ put s e t N →
+    join k (at c′ r′) h (hungOn s (inwards s e i) u′ S) n ≡ put s e t (join k (at c r) (sideOn s h) (shift i u (draw (facing s S))) N)
+unfolding hungOn
+held-join s e t k c r i u h S N ec er eu en = cc (put-join s e t k c r h (shift i u (draw (facing s S))) N, put-shift s e t i u (draw (facing s S)))
+
+-- A subtree hung on a side is clean.
+pub hung-clean : (s : Side) (e t : ℕ) (S : Tree) → Fit s e (draw (facing s S)) → Clean (hungOn s e t S)
+unfolding hungOn held
+hung-clean s e t S fit = untangled-clean (subst Untangled (sym (put-held s e t (draw (facing s S)))) (go s fit (drawn (facing s S) .stands .untangled)))
+  where
+    go : (s : Side) {L : Layout} → Fit s e L → Untangled L → Untangled (held s e t L)
+    go left h c = untangled-shift e t c
+    go right h c = untangled-shift 0 t (untangled-flip e h c)

@@ -1,0 +1,135 @@
+-- A whole breadth-first order: children stand after their parents, each node of the order is a node of the tree, and the order is as long as the chain just where all
+-- is reached. Rests on Lists, Chain, Causes, Scan and Order.
+use mathlib.Core.Path.{_≡_, refl, sym, ap, _∙_, subst}
+use mathlib.Core.Logic.{inl, inr}
+use mathlib.Core.Bool.{Bool, true, false, not}
+use mathlib.Core.List.{List, [], _∷_, _++_}
+use Prim.Native.Nat.{ℕ, zero, suc, _+_, _≤_, _<_}
+use native.Mathlib.Omega.{arith}
+use lib.Dec.{T}
+use lib.ListN.{length, getD, take, drop, take-append-drop, List·getD-append}
+use lib.Seq.{take-length, drop-cons, drop-append-le, length-take-le, getD-take}
+use Rattle.table.specs.Lists.{any, member, count}
+use Rattle.table.specs.Table.{Side, left, right, records, leftOf, rightOf, linkOf, rootOf, chain}
+use Rattle.table.specs.Tree.{nodes, tree}
+use Rattle.table.specs.Refusal.{links}
+use Rattle.table.specs.Steps.{Rooted, Queue, Filled, present, notReached}
+use Rattle.table.proofs.Lists.{T-true, passes, or-T, any-false, same, same-one, member-append, member-cons, member-count, within, length-within, within-back}
+use Rattle.table.proofs.Chain.{links-append, names, namer, reached}
+use Rattle.table.proofs.Causes.{sound-distinct, sound-within, sound-length, nodes-rooted}
+use Rattle.table.proofs.Scan.{member-at, place}
+use Rattle.table.proofs.Order.{present-append, count-present, zero-present, parented}
+
+-- What is named by one of a list is among its children.
+child-present : (t ks : List ℕ) (k x : ℕ) (s : Side) → T (member k ks) → linkOf t s k ≡ x → 0 < x → T (member x (present (links t ks)))
+child-present t ks k zero s m e h = absurd (omega arith)
+child-present t ks k (suc x) s m e h = member-count (suc x) (present (links t ks)) .1 (omega (arith, count-present x (links t ks), names t (suc x) k s ks m (sym e)))
+
+-- What is among the children of a list is named by one of it.
+present-child : (t ks : List ℕ) (x : ℕ) → T (member x (present (links t ks))) → (0 < x) × ((p : ℕ) × (s : Side) × T (member p ks) × (linkOf t s p ≡ x))
+present-child t ks zero m = absurd (omega (arith, zero-present (links t ks), member-count 0 (present (links t ks)) .0 m))
+present-child t ks (suc x) m = (omega arith, namer t (suc x) ks (omega (arith, count-present x (links t ks), member-count (suc x) (present (links t ks)) .0 m)))
+
+module _ (t o : List ℕ) (q : Queue t (length o) o) where
+  -- At each place the order is the root, the children of the nodes before it, and those of the others.
+  split : (i : ℕ) → o ≡ rootOf t ∷ (present (links t (take i o)) ++ present (links t (drop i o)))
+  split i =
+      q .listed ∙
+      ap (λ (l : List ℕ). rootOf t ∷ l)
+      (ap (λ (l : List ℕ). present (links t l)) (take-length o ∙ sym (take-append-drop i o)) ∙
+      ap present (links-append t (take i o) (drop i o)) ∙
+      present-append (links t (take i o)) (links t (drop i o)))
+
+  pub later : (i : ℕ) (s : Side) → i < length o → 0 < linkOf t s (getD o i 0) → T (member (linkOf t s (getD o i 0)) (drop (suc i) o))
+  later i s h some =
+      subst (λ (l : List ℕ). T (member (linkOf t s (getD o i 0)) l)) (sym (ap (drop (suc i)) (split i) ∙ drop-append-le i (present (links t (take i o))) (present (links t (drop i o))) (q .early i h)))
+      (rw member-append
+      (or-T (member (linkOf t s (getD o i 0)) (drop i (present (links t (take i o))))) (member (linkOf t s (getD o i 0)) (present (links t (drop i o)))) .1
+      (inr (child-present t (drop i o) (getD o i 0) (linkOf t s (getD o i 0)) s (rw (drop-cons o i 0 h) (member-cons (getD o i 0) (getD o i 0) (drop (suc i) o) .1 (inl refl))) refl some))))
+
+  -- A node that is not the first is a child of one before it.
+  earlier : (i : ℕ) → suc i < length o → (j : ℕ) × (s : Side) × (j < suc i) × (0 < linkOf t s (getD o j 0)) × (linkOf t s (getD o j 0) ≡ getD o (suc i) 0)
+  earlier i h =
+      let A = present (links t (take (suc i) o)) in
+      let e : getD o (suc i) 0 ≡ getD A i 0 = ap (λ (l : List ℕ). getD l (suc i) 0) (split (suc i)) ∙ List·getD-append A (present (links t (drop (suc i) o))) 0 i (q .early (suc i) h) in
+      let c = present-child t (take (suc i) o) (getD A i 0) (member-at A i (q .early (suc i) h)) in
+      let p = c .1 in
+      let j = place (p .0) (take (suc i) o) (p .2) in
+      let l : j .0 < suc i = omega (arith, j .1, length-take-le (suc i) o (omega arith)) in
+      let d : linkOf t (p .1) (getD o (j .0) 0) ≡ getD A i 0 = ap (linkOf t (p .1)) (sym (getD-take (suc i) o (j .0) 0 l) ∙ j .2) ∙ p .3 in
+      (j .0, p .1, l, omega (arith, c .0), d ∙ sym e)
+
+module _ (t : List ℕ) (r : Rooted t) (o : List ℕ) (q : Queue t (length o) o) where
+  -- The root, and what nodes of the tree name, are nodes of the tree.
+  in-tree : (x : ℕ) → 0 < x → 1 ≤ same x (rootOf t) + count x (links t (nodes (tree t))) → T (member x (nodes (tree t)))
+  in-tree zero z h = absurd (omega arith)
+  in-tree (suc x) z h = member-count (suc x) (nodes (tree t)) .1 (omega (arith, nodes-rooted t (parented t r) (sound-length t (r .shaped .whole) (r .sound)) x))
+
+  -- Each node of the order is one of the tree, if those before it are.
+  level : (n i : ℕ) → i < n → i < length o → T (member (getD o i 0) (nodes (tree t)))
+  level zero i l h = absurd (omega arith)
+  level (suc n) zero l h =
+      rw (ap (λ (k : List ℕ). getD k 0 0) (q .listed))
+      (in-tree (rootOf t) (sound-within t (r .sound) (rootOf t) (r .root) .0) (omega (arith, same-one (rootOf t) (rootOf t) refl)))
+  level (suc n) (suc i) l h =
+      let e = earlier t o q i h in
+      rw (← (e .4))
+      (in-tree (linkOf t (e .1) (getD o (e .0) 0)) (e .3)
+      (omega (arith, names t (linkOf t (e .1) (getD o (e .0) 0)) (getD o (e .0) 0) (e .1) (nodes (tree t)) (level n (e .0) (omega (arith, e .2)) (omega (arith, e .2))) refl)))
+
+  pub all-reached : length o ≡ length (chain t) → notReached t ≡ false
+  unfolding notReached
+  all-reached e = any-false (λ k. not (member k (nodes (tree t)))) (chain t) .1 (λ k m. rw (T-true (member k (nodes (tree t))) .0 (go k m)))
+    where
+      go : (k : ℕ) → T (member k (chain t)) → T (member k (nodes (tree t)))
+      go k m =
+          let p = place k o (member-count k o .1 (omega (arith, member-count k (chain t) .0 m, within-back o (chain t) (q .within) (omega arith) k))) in
+          rw (p .2) at (level (suc (p .0)) (p .0) (omega arith) (p .1))
+
+  pub reached-all : notReached t ≡ false → length o ≡ length (chain t)
+  unfolding notReached
+  reached-all e =
+      omega (arith, length-within o (chain t) (q .within), length-within (chain t) o (within (chain t) o (sound-distinct t (r .sound)) go))
+    where
+      first : T (member (rootOf t) o)
+      first = rw (q .listed) (member-cons (rootOf t) (rootOf t) (present (links t (take (length o) o))) .1 (inl refl))
+
+      next : (k : ℕ) (s : Side) → 0 < k → (0 < k → T (member k o)) → 0 < linkOf t s k → T (member (linkOf t s k) o)
+      next k s z p some =
+          subst (λ (l : List ℕ). T (member (linkOf t s k) l)) (sym (q .listed))
+          (member-cons (linkOf t s k) (rootOf t) (present (links t (take (length o) o))) .1
+          (inr (rw take-length (child-present t o k (linkOf t s k) s (p z) refl some))))
+
+      go : (k : ℕ) → T (member k (chain t)) → T (member k o)
+      go k m =
+          reached (λ n. 0 < n → T (member n o)) t next (records t) (rootOf t) (λ z. first) k
+          (passes (member k (nodes (tree t))) (any-false (λ n. not (member n (nodes (tree t)))) (chain t) .0 e k m)) (sound-within t (r .sound) k m .0)
+
+-- The first m numbers of an array are a whole order.
+module _ (t order : List ℕ) (m n : ℕ) (r : Rooted t) (long : length order ≡ 4097) (q : (m ≤ 4097) × Queue t m (take m order)) (nodes : n ≡ length (chain t)) where
+  size-order : length (take m order) ≡ m
+  size-order = length-take-le m order (omega (arith, q .0))
+
+  whole : Queue t (length (take m order)) (take m order)
+  whole = subst (λ (k : ℕ). Queue t k (take m order)) (sym size-order) (q .1)
+
+  pub missed : (m ≡ n → ⊥) → false ≡ not (notReached t)
+  missed d = go (notReached t) refl
+    where
+      go : (b : Bool) → notReached t ≡ b → false ≡ not b
+      go true e = refl
+      go false e = absurd (d (omega (arith, size-order, reached-all t r (take m order) whole e)))
+
+  module _ (e : m ≡ n) where
+    as-long : length (take m order) ≡ length (chain t)
+    as-long = omega (arith, size-order)
+
+    pub none-missed : notReached t ≡ false
+    none-missed = all-reached t r (take m order) whole as-long
+
+    pub filled-chain : (sizes : List ℕ) → Filled t (take m order) sizes → Filled t (chain t) sizes
+    filled-chain sizes f = record {
+      long = f .long;
+      sized = λ k h. f .sized k (member-count k (take m order) .1 (omega (arith, member-count k (chain t) .0 h, within-back (take m order) (chain t) (q .1 .within) (omega (arith, as-long)) k)));
+      none = f .none;
+    }

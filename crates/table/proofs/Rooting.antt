@@ -1,0 +1,109 @@
+-- Cause 5 from the tests of the code. Rests on Lists, Chain and Causes.
+use mathlib.Core.Path.{_≡_, refl, sym, ap, _∙_}
+use mathlib.Core.Bool.{Bool, true, false, not, cond, _&&_, _||_, or-assoc, or-true, and-false, false≢true}
+use mathlib.Core.List.{List, []}
+use Prim.Native.Nat.{ℕ, zero, suc, _≤_, _<_}
+use native.Mathlib.Omega.{arith}
+use lib.Dec.{T, eqb}
+use lib.ListN.{length, getD, set, length-set}
+use lib.Seq.{getD-set-same}
+use borrow.Author.Tests.{eq-eqb, ne-eqb, eqb-true, eqb-false, not-false}
+use Rattle.table.specs.Lists.{member}
+use Rattle.table.specs.Table.{records, nextOf, rootOf, follow, chain}
+use Rattle.table.specs.Refusal.{badChain, badLinks, isEmpty, named, badTree, fault}
+use Rattle.table.specs.Steps.{Shaped, Listed, Marked, Rooted, Filled, Grown, notOnce, notReached}
+use Rattle.table.proofs.Lists.{T-true, T-false, or-false}
+use Rattle.table.proofs.Chain.{follow-none}
+use Rattle.table.proofs.Causes.{sound-within}
+
+-- With a root, the tree is not empty.
+pub tree-tests : (t : List ℕ) → (rootOf t ≡ 0 → ⊥) → badTree t ≡ not (member (rootOf t) (chain t)) || ((not (eqb (named t (rootOf t)) 0) || notOnce t) || notReached t)
+unfolding badTree isEmpty notOnce notReached
+tree-tests t h =
+    rw (ne-eqb (rootOf t) 0 h, and-false) (ap (λ (b : Bool). not (member (rootOf t) (chain t)) || b) (sym (or-assoc (not (eqb (named t (rootOf t)) 0)) (notOnce t) (notReached t))))
+
+starts : (n : ℕ) (t : List ℕ) (k : ℕ) → 0 < n → length (follow n t k) ≡ 0 → k ≡ 0
+unfolding follow
+starts zero t k h e = absurd (omega arith)
+starts (suc n) t zero h e = refl
+starts (suc n) t (suc k) h e = absurd (omega arith)
+
+-- Without one, it is empty if the chain is.
+tree-empty : (t : List ℕ) → Shaped t → rootOf t ≡ 0 → length (chain t) ≡ 0 → (badTree t ≡ false) × (chain t ≡ [])
+unfolding badTree isEmpty chain
+tree-empty t s e l =
+    let n = starts (records t) t (nextOf t 0) (s .head) l in
+    (rw (eq-eqb (nextOf t 0) 0 n, eq-eqb (rootOf t) 0 e), rw n (follow-none (records t) t))
+
+tree-headless : (t : List ℕ) → badChain t ≡ false → rootOf t ≡ 0 → (length (chain t) ≡ 0 → ⊥) → badTree t ≡ true
+unfolding badTree isEmpty
+tree-headless t b e l =
+    rw (ne-eqb (nextOf t 0) 0 (λ n. l (ended n)), T-false (member (rootOf t) (chain t)) .0 (λ m. omega (arith, sound-within t b (rootOf t) m)))
+  where
+    ended : nextOf t 0 ≡ 0 → length (chain t) ≡ 0
+    ended n = unfold chain in (rw (n, follow-none))
+
+-- Causes 1 to 5 do not hold.
+pub accepted : (t : List ℕ) → Rooted t → notReached t ≡ false → fault t ≡ 0
+unfolding fault
+accepted t r e =
+    rw (
+      r .shaped .whole,
+      r .shaped .zeros,
+      r .sound,
+      r .linked,
+      tree-tests t (λ z. omega (arith, sound-within t (r .sound) (rootOf t) (r .root))),
+      T-true (member (rootOf t) (chain t)) .0 (r .root),
+      eq-eqb (named t (rootOf t)) 0 (r .unnamed),
+      r .once,
+      e,
+    )
+
+pub grown-bad : (t sizes : List ℕ) → badTree t ≡ true → Grown t false sizes
+grown-bad t sizes e = record { good = rw e; filled = λ z. absurd (false≢true z) }
+
+pub marked-by : (t mark : List ℕ) (k : ℕ) (r : Bool) → Marked t mark → r ≡ not (eqb (getD mark k 0) 0) → r ≡ member k (chain t)
+marked-by t mark k r m e = e ∙ rw (m .marks k) (go (member k (chain t)))
+  where
+    go : (b : Bool) → not (eqb (cond b 1 0) 0) ≡ b
+    go true = refl
+    go false = refl
+
+-- The sizes before they are filled.
+pub unfilled : (t sizes : List ℕ) → length sizes ≡ 4097 → Filled t [] (set sizes 0 0)
+unfolding member
+unfilled t sizes l = record { long = simp length-set l; sized = λ k h. absurd h; none = getD-set-same sizes 0 0 0 (omega arith) }
+
+pub rootless : (t : List ℕ) (n : ℕ) (list sizes : List ℕ) → Listed t n list → rootOf t ≡ 0 → Filled t [] sizes → Grown t (eqb n 0) sizes
+rootless t n list sizes l e f = go (eqb n 0) refl
+  where
+    go : (b : Bool) → eqb n 0 ≡ b → Grown t b sizes
+    go true d = let z = tree-empty t (l .shaped) e (sym (l .nodes) ∙ eqb-true n 0 d) in record { good = rw (z .0); filled = λ y. rw (z .1) f }
+    go false d = grown-bad t sizes (tree-headless t (l .sound) e (λ z. eqb-false n 0 d (l .nodes ∙ z)))
+
+-- With a root other than zero.
+module _ (t : List ℕ) (root : ℕ) (e : root ≡ rootOf t) (some : root ≡ 0 → ⊥) where
+  tests : badTree t ≡ not (member root (chain t)) || ((not (eqb (named t root) 0) || notOnce t) || notReached t)
+  tests = rw e (tree-tests t (λ z. some (e ∙ z)))
+
+  pub off-chain : member root (chain t) ≡ false → badTree t ≡ true
+  off-chain m = rw (tests, m)
+
+  pub ill-named : not (eqb (named t root) 0) || notOnce t ≡ true → badTree t ≡ true
+  ill-named n = rw (tests, n, or-true)
+
+  module _ (m : member root (chain t) ≡ true) (n : not (eqb (named t root) 0) || notOnce t ≡ false) where
+    pub grown : (r : Bool) (sizes : List ℕ) → r ≡ not (notReached t) → (r ≡ true → Filled t (chain t) sizes) → Grown t r sizes
+    grown r sizes d f = record { good = rw (tests, m, n, d); filled = f }
+
+    pub rooted : Shaped t → badChain t ≡ false → badLinks t ≡ false → Rooted t
+    rooted s c l =
+        let (u, o) = or-false (not (eqb (named t root) 0)) (notOnce t) .0 n in
+        record {
+          shaped = s;
+          sound = c;
+          linked = l;
+          root = rw (← e) (T-true (member root (chain t)) .1 m);
+          unnamed = rw (← e) (eqb-true (named t root) 0 (not-false _ u));
+          once = o;
+        }

@@ -1,0 +1,68 @@
+-- Going through a listed chain: where its records are, and when none of them passes a test. Rests on Lists and Causes.
+use mathlib.Core.Path.{_≡_, refl, sym, ap, _∙_, subst}
+use mathlib.Core.Logic.{_⊎_, inl, inr, ⊎-elim}
+use mathlib.Core.Bool.{Bool, true, false, not, cond, _&&_, _||_, or-true}
+use mathlib.Core.List.{List, [], _∷_}
+use Prim.Native.Nat.{ℕ, zero, suc, _≤_, _<_}
+use native.Mathlib.Omega.{arith}
+use lib.Dec.{T, eqb, leb}
+use lib.ListN.{length, getD, take}
+use lib.Seq.{getD-take}
+use borrow.Author.Tests.{eq-eqb, lt-leb, le-leb}
+use Rattle.table.specs.Lists.{any, member}
+use Rattle.table.specs.Table.{records, chain}
+use Rattle.table.specs.Refusal.{beyond, stray}
+use Rattle.table.specs.Steps.{Listed, Marked}
+use Rattle.table.proofs.Lists.{T-true, T-false, member-cons, any-false}
+use Rattle.table.proofs.Causes.{sound-within}
+
+-- What stands at a place is a member, and a member stands at a place.
+pub member-at : (ks : List ℕ) (i : ℕ) → i < length ks → T (member (getD ks i 0) ks)
+member-at [] i h = absurd (omega arith)
+member-at (k ∷ ks) zero h = member-cons k k ks .1 (inl refl)
+member-at (k ∷ ks) (suc i) h = member-cons (getD ks i 0) k ks .1 (inr (member-at ks i (omega arith)))
+
+pub place : (k : ℕ) (ks : List ℕ) → T (member k ks) → (i : ℕ) × (i < length ks) × (getD ks i 0 ≡ k)
+place k [] h = absurd (unfold member in h)
+place k (n ∷ ns) h =
+    ⊎-elim (λ (e : k ≡ n). (0, omega arith, sym e)) (λ (m : T (member k ns)). let p = place k ns m in (suc (p .0), omega (arith, p .1), p .2)) (member-cons k n ns .0 h)
+
+-- A number of the list passes.
+pub any-true : (f : ℕ → Bool) (ks : List ℕ) (k : ℕ) → T (member k ks) → f k ≡ true → any f ks ≡ true
+any-true f ks k m e = go (any f ks) refl
+  where
+    go : (b : Bool) → any f ks ≡ b → b ≡ true
+    go true h = refl
+    go false h = absurd (subst T (sym e ∙ any-false f ks .0 h k m) tt)
+
+module _ (t : List ℕ) (n : ℕ) (list : List ℕ) (l : Listed t n list) where
+  same-place : (i : ℕ) → i < n → getD (chain t) i 0 ≡ getD list i 0
+  same-place i h = rw (sym (l .listed)) (getD-take n list i 0 h)
+
+  pub listed-member : (i : ℕ) → i < n → T (member (getD list i 0) (chain t))
+  listed-member i h = rw (sym (same-place i h)) (member-at (chain t) i (omega (arith, l .nodes)))
+
+  pub listed-inside : (i : ℕ) → i < n → getD list i 0 < records t
+  listed-inside i h = sound-within t (l .sound) (getD list i 0) (listed-member i h) .1
+
+  pub scan-hit : (f : ℕ → Bool) (i : ℕ) → i < n → f (getD list i 0) ≡ true → any f (chain t) ≡ true
+  scan-hit f i h e = any-true f (chain t) (getD list i 0) (listed-member i h) e
+
+  pub scan-none : (f : ℕ → Bool) → ((i : ℕ) → i < n → f (getD list i 0) ≡ false) → any f (chain t) ≡ false
+  scan-none f h =
+      any-false f (chain t) .1
+      (λ k m. let p = place k (chain t) m in
+      let s : p .0 < n = omega (arith, p .1, l .nodes) in
+      ap f (sym (p .2) ∙ same-place (p .0) s) ∙ h (p .0) s)
+
+  -- A link that is not zero is stray if it is not marked.
+  stray-mark : (mark : List ℕ) → Marked t mark → (k : ℕ) → not (eqb k 0) && eqb (getD mark k 0) 0 ≡ stray t k
+  unfolding stray beyond
+  stray-mark mark m k = ap (λ (b : Bool). not (eqb k 0) && b) (rw (m .marks k) (go (member k (chain t)) refl))
+    where
+      go : (b : Bool) → member k (chain t) ≡ b → eqb (cond b 1 0) 0 ≡ beyond t k || not b
+      go true e = rw (lt-leb (records t) k (sound-within t (l .sound) k (T-true (member k (chain t)) .1 e) .1))
+      go false e = rw or-true
+
+  pub stray-by : (mark : List ℕ) → Marked t mark → (r b : Bool) (k link : ℕ) → r ≡ b → r ≡ not (eqb link 0) && eqb (getD mark link 0) 0 → link ≡ k → stray t k ≡ b
+  stray-by mark m r b k link d e f = ap (stray t) (sym f) ∙ sym (stray-mark mark m link) ∙ sym e ∙ d

@@ -1,0 +1,158 @@
+-- The walk along the chain: what its loop keeps, and how it ends. Rests on Lists, Chain and Causes.
+use mathlib.Core.Path.{_≡_, refl, sym, ap, _∙_}
+use mathlib.Core.Logic.{_⊎_, inl, inr, ⊎-elim, ⊎-map}
+use mathlib.Core.Bool.{Bool, true, false, cond, _||_, or-true, or-false}
+use mathlib.Core.List.{List, [], _∷_, _++_, append-assoc, append-nil}
+use Prim.Native.Nat.{ℕ, zero, suc, _+_, _-_, _≤_, _<_}
+use native.Mathlib.Nat.{sub-zero}
+use native.Mathlib.Numerals.{add-one}
+use native.Mathlib.Omega.{arith}
+use lib.Dec.{T, eqb, eqb→eq}
+use lib.ListN.{length, getD, take, set, length-set, length-append}
+use lib.Seq.{take-suc-set, length-take-le, getD-set-same, getD-set-other}
+use borrow.Author.Tests.{eq-eqb, ne-eqb, lt-leb}
+use Rattle.table.specs.Lists.{any, member, repeats, count}
+use Rattle.table.specs.Table.{records, nextOf, follow, chain}
+use Rattle.table.specs.Refusal.{beyond, badChain}
+use Rattle.table.specs.Steps.{Shaped, Listed, Blank, Marked, Walked}
+use Rattle.table.proofs.Lists.{or-T, or-false as or-false², any-false, member-append, member-cons, member-count, member-none, same, same-one, alike, Alike, count-append, Distinct, repeats-count, length-between}
+use Rattle.table.proofs.Chain.{follow-none}
+use Rattle.table.proofs.Causes.{sound-distinct, sound-within}
+
+-- After i records, with the walk at record `at`: they are the start of the chain, distinct and within the table, and they alone are marked.
+pub record Walk (t : List ℕ) (i at : ℕ) (list mark : List ℕ) : Type 0 where
+  pub split : chain t ≡ take i list ++ follow (records t - i) t at
+  pub once : Distinct (take i list)
+  pub within : (k : ℕ) → T (member k (take i list)) → (1 ≤ k) × (k < records t)
+  pub marks : (k : ℕ) → getD mark k 0 ≡ cond (member k (take i list)) 1 0
+  pub room : i < records t
+  pub at-small : at < 65536
+  pub list-long : length list ≡ 4097
+  pub mark-long : length mark ≡ 4097
+
+pub walk-start : (t : List ℕ) (at : ℕ) (list mark : List ℕ) → Shaped t → length list ≡ 4097 → Blank mark → at ≡ nextOf t 0 → at < 65536 → Walk t 0 at list mark
+unfolding chain member repeats
+walk-start t at list mark s l z e b =
+    record {
+      split = rw (sub-zero, e);
+      once = refl;
+      within = λ k h. absurd h;
+      marks = z .zeros;
+      room = s .head;
+      at-small = b;
+      list-long = l;
+      mark-long = z .long;
+    }
+
+follow-some : (n : ℕ) (t : List ℕ) (k : ℕ) → (k ≡ 0 → ⊥) → follow (suc n) t k ≡ k ∷ follow n t (nextOf t k)
+unfolding follow
+follow-some n t zero p = absurd (p refl)
+follow-some n t (suc k) p = refl
+
+-- Cause 3 holds if it cannot be otherwise.
+refused : (t list mark : List ℕ) → (badChain t ≡ false → ⊥) → Walked t (record { refusal = 3; nodes = 0 }) list mark
+refused t list mark h = record { refusal = go (badChain t) h; chained = λ r. absurd (omega arith); marked = λ r. absurd (omega arith) }
+  where
+    go : (b : Bool) → (b ≡ false → ⊥) → _≡_ {A = ℕ} 3 (cond b 3 0)
+    go true h = refl
+    go false h = absurd (h refl)
+
+seen : (b : Bool) → (_≡_ {A = ℕ} (cond b 1 0) 0 → ⊥) → T b
+seen true h = tt
+seen false h = absurd (h refl)
+
+unseen : (b : Bool) → _≡_ {A = ℕ} (cond b 1 0) 0 → b ≡ false
+unseen true e = absurd (omega arith)
+unseen false e = refl
+
+module _ (t : List ℕ) (i at : ℕ) (list mark : List ℕ) (w : Walk t i at list mark) where
+  -- At zero the chain has ended, and cause 3 does not hold.
+  module _ (shaped : Shaped t) (e : at ≡ 0) where
+    ended : chain t ≡ take i list
+    ended = w .split ∙ rw (e, follow-none) (append-nil _)
+
+    sound : badChain t ≡ false
+    unfolding badChain beyond
+    sound = rw ended (or-false² (any (beyond t) (take i list)) (repeats (take i list)) .1 (any-false (beyond t) (take i list) .1 (λ k h. lt-leb (records t) k (w .within k h .1)), w .once))
+
+    long : i ≤ length list
+    long = omega (arith, w .room, w .list-long, shaped .room)
+
+    pub walk-end : Walked t (record { refusal = 0; nodes = i }) list mark
+    walk-end = record {
+      refusal = rw sound;
+      chained =
+          λ r. record {
+            shaped = shaped;
+            sound = sound;
+            nodes = rw ended (sym (length-take-le i list long));
+            long = long;
+            listed = sym ended;
+          };
+      marked = λ r. record { long = w .mark-long; marks = rw ended (w .marks) };
+    }
+
+  module _ (on : at ≡ 0 → ⊥) where
+    more : chain t ≡ take i list ++ at ∷ follow (records t - (i + 1)) t (nextOf t at)
+    more = w .split ∙ ap (λ (l : List ℕ). take i list ++ l) (ap (λ (n : ℕ). follow n t at) (omega (arith, w .room)) ∙ follow-some (records t - (i + 1)) t at on)
+
+    one-more : suc (count at (take i list)) ≤ count at (chain t)
+    unfolding count
+    one-more = rw (more, count-append) (omega (arith, same-one at at refl))
+
+    pub walk-beyond : records t ≤ at → Walked t (record { refusal = 3; nodes = 0 }) list mark
+    walk-beyond b = refused t list mark (λ s. omega (arith, sound-within t s at (member-count at (chain t) .1 (omega (arith, one-more)))))
+
+    pub walk-twice : (getD mark at 0 ≡ 0 → ⊥) → Walked t (record { refusal = 3; nodes = 0 }) list mark
+    walk-twice m =
+        refused t list mark
+        (λ s. omega (arith, one-more, repeats-count (chain t) .0 (sound-distinct t s) at, member-count at (take i list) .0 (seen (member at (take i list)) (λ e. m (w .marks at ∙ e)))))
+
+    module _ (shaped : Shaped t) (b : at < records t) (m : getD mark at 0 ≡ 0) where
+      taken : take (i + 1) (set list i at) ≡ take i list ++ (at ∷ [])
+      taken = rw add-one (take-suc-set list i at (omega (arith, w .room, w .list-long, shaped .room)))
+
+      fresh : count at (take i list) ≡ 0
+      fresh = member-none at (take i list) .0 (unseen (member at (take i list)) (sym (w .marks at) ∙ m))
+
+      once : Distinct (take i list ++ (at ∷ []))
+      unfolding count
+      once = repeats-count (take i list ++ (at ∷ [])) .1 (λ k. rw count-append (go k (alike k at)))
+        where
+          go : (k : ℕ) → Alike k at → count k (take i list) + (same k at + 0) ≤ 1
+          go k (inl e) = omega (arith, fresh, ap (λ (n : ℕ). count n (take i list)) (e .0))
+          go k (inr e) = omega (arith, repeats-count (take i list) .0 (w .once) k)
+
+      -- A member is one of the old, or the new one.
+      cases : (k : ℕ) → T (member k (take i list ++ (at ∷ []))) → T (member k (take i list)) ⊎ (k ≡ at)
+      unfolding member
+      cases k h = ⊎-map (λ (o : T (member k (take i list))). o) (λ (o : T (eqb k at || false)). eqb→eq k at (rw or-false at o)) (or-T (member k (take i list)) (eqb k at || false) .0 (rw member-append at h))
+
+      within : (k : ℕ) → T (member k (take i list ++ (at ∷ []))) → (1 ≤ k) × (k < records t)
+      within k h = ⊎-elim (w .within k) (λ (e : k ≡ at). omega (arith, on)) (cases k h)
+
+      marks : (k : ℕ) → getD (set mark at 1) k 0 ≡ cond (member k (take i list ++ (at ∷ []))) 1 0
+      unfolding member
+      marks k = rw member-append (go (alike k at))
+        where
+          go : Alike k at → getD (set mark at 1) k 0 ≡ cond (member k (take i list) || (eqb k at || false)) 1 0
+          go (inl e) = rw (e .0, eq-eqb at at refl, or-true) (getD-set-same mark at 1 0 (omega (arith, w .mark-long, shaped .room)))
+          go (inr e) = rw (ne-eqb k at (e .0), or-false, getD-set-other mark at k 1 0 (e .0)) (w .marks k)
+
+      pub walk-step : nextOf t at < 65536 → Walk t (i + 1) (nextOf t at) (set list i at) (set mark at 1)
+      walk-step s = record {
+        split = more ∙ rw (taken, append-assoc);
+        once = rw taken once;
+        within = rw taken within;
+        marks = rw taken marks;
+        room =
+            omega (
+              arith,
+              length-between (records t) (take i list ++ (at ∷ [])) (shaped .head) once within,
+              length-append (take i list) (at ∷ []),
+              length-take-le i list (omega (arith, w .room, w .list-long, shaped .room)),
+            );
+        at-small = s;
+        list-long = simp length-set (w .list-long);
+        mark-long = simp length-set (w .mark-long);
+      }

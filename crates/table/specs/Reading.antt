@@ -1,0 +1,23 @@
+-- What a reading of a table promises of its answer and of the two lists that it is lent.
+use mathlib.Core.Path.{_≡_}
+use lib.Dec.{T}
+use mathlib.Core.List.{List}
+use Prim.Native.Nat.{ℕ}
+use lib.ListN.{length, getD, take}
+use Rattle.table.specs.declared.Reading.{Reading}
+use Rattle.table.specs.Lists.{member}
+use Rattle.table.specs.Table.{chain}
+use Rattle.table.specs.Tree.{size, treeAt}
+use Rattle.table.specs.Refusal.{refusal}
+
+-- n is the number of nodes, the first n numbers of list are the chain, and sizes has the size of the subtree at each node, 0 at zero, which "is none".
+pub record Sized (t : List ℕ) (n : ℕ) (list sizes : List ℕ) : Type 0 where
+  pub nodes : n ≡ length (chain t)
+  pub listed : take n list ≡ chain t
+  pub sized : (k : ℕ) → T (member k (chain t)) → getD sizes k 0 ≡ size (treeAt t k)
+  pub none : getD sizes 0 0 ≡ 0
+
+-- "A refusal is given if its cause holds and no earlier one does, and never otherwise"; a table that is not refused is listed and sized.
+pub record ReadOf (t : List ℕ) (places : ℕ) (r : Reading) (list sizes : List ℕ) : Type 0 where
+  pub refusal : r .refusal ≡ refusal t places
+  pub accepted : r .refusal ≡ 0 → Sized t (r .nodes) list sizes

@@ -1,0 +1,88 @@
+-- What the steps of a reading leave to the next one. No promise to a caller is here.
+use mathlib.Core.Path.{_≡_}
+use mathlib.Core.Bool.{Bool, true, false, cond, not, _&&_}
+use mathlib.Core.List.{List, [], _∷_}
+use Prim.Native.Nat.{ℕ, zero, suc, _≤_, _<_}
+use lib.Dec.{T, eqb}
+use lib.ListN.{length, getD, take}
+use Rattle.table.specs.declared.Reading.{Reading}
+use Rattle.table.specs.Lists.{any, member, count}
+use Rattle.table.specs.Table.{records, chain, leftOf, rightOf, rootOf}
+use Rattle.table.specs.Tree.{nodes, tree, treeAt, size}
+use Rattle.table.specs.Refusal.{badLength, badHead, badChain, badLinks, badTree, links, named}
+
+-- Not refused with 1 or 2: there is a head, and no more records than a list of 4,097 has room for.
+pub record Shaped (t : List ℕ) : Type 0 where
+  pub whole : badLength t ≡ false
+  pub zeros : badHead t ≡ false
+  pub head : 0 < records t
+  pub room : records t ≤ 4097
+
+-- Nor with 3. The first n numbers of list are the chain.
+pub record Listed (t : List ℕ) (n : ℕ) (list : List ℕ) : Type 0 where
+  pub shaped : Shaped t
+  pub sound : badChain t ≡ false
+  pub nodes : n ≡ length (chain t)
+  pub long : n ≤ length list
+  pub listed : take n list ≡ chain t
+
+-- A list of 4,097 zeros.
+pub record Blank (l : List ℕ) : Type 0 where
+  pub long : length l ≡ 4097
+  pub zeros : (k : ℕ) → getD l k 0 ≡ 0
+
+-- mark has 1 at the records of the chain, 0 at the others.
+pub record Marked (t mark : List ℕ) : Type 0 where
+  pub long : length mark ≡ 4097
+  pub marks : (k : ℕ) → getD mark k 0 ≡ cond (member k (chain t)) 1 0
+
+-- What a walk along the chain answers.
+pub record Walked (t : List ℕ) (r : Reading) (list mark : List ℕ) : Type 0 where
+  pub refusal : r .refusal ≡ cond (badChain t) 3 0
+  pub chained : r .refusal ≡ 0 → Listed t (r .nodes) list
+  pub marked : r .refusal ≡ 0 → Marked t mark
+
+-- tally has how often each record is named as a child.
+pub record Tallied (t tally : List ℕ) : Type 0 where
+  pub long : length tally ≡ 4097
+  pub tallies : (k : ℕ) → getD tally k 0 ≡ named t k
+
+-- The parts of cause 5 that are left when the root is on the chain: another chained node is not named exactly once, one is not reached.
+unfoldable pub notOnce : List ℕ → Bool
+notOnce t = any (λ k. not (eqb k (rootOf t)) && not (eqb (named t k) 1)) (chain t)
+
+unfoldable pub notReached : List ℕ → Bool
+notReached t = any (λ k. not (member k (nodes (tree t)))) (chain t)
+
+-- Refused with 5 at most, and only for a node that is not reached.
+pub record Rooted (t : List ℕ) : Type 0 where
+  pub shaped : Shaped t
+  pub sound : badChain t ≡ false
+  pub linked : badLinks t ≡ false
+  pub root : T (member (rootOf t) (chain t))
+  pub unnamed : named t (rootOf t) ≡ 0
+  pub once : notOnce t ≡ false
+
+-- The links that are not zero.
+unfoldable pub present : List ℕ → List ℕ
+present [] = []
+present (zero ∷ ks) = present ks
+present (suc k ∷ ks) = suc k ∷ present ks
+
+-- A breadth-first order, as far as its node h: the root, then the children of the first h nodes, each of the h before its children. No record stands there more often
+-- than on the chain.
+pub record Queue (t : List ℕ) (h : ℕ) (order : List ℕ) : Type 0 where
+  pub listed : order ≡ rootOf t ∷ present (links t (take h order))
+  pub early : (i : ℕ) → i < h → i ≤ length (present (links t (take i order)))
+  pub within : (k : ℕ) → count k order ≤ count k (chain t)
+
+-- sizes has the sizes of the subtrees at the given nodes, and 0 at zero.
+pub record Filled (t : List ℕ) (ks sizes : List ℕ) : Type 0 where
+  pub long : length sizes ≡ 4097
+  pub sized : (k : ℕ) → T (member k ks) → getD sizes k 0 ≡ size (treeAt t k)
+  pub none : getD sizes 0 0 ≡ 0
+
+-- What the tests of cause 5 answer.
+pub record Grown (t : List ℕ) (r : Bool) (sizes : List ℕ) : Type 0 where
+  pub good : r ≡ not (badTree t)
+  pub filled : r ≡ true → Filled t (chain t) sizes

@@ -1,0 +1,79 @@
+// How often the records are named as children.
+use crate::words::left;
+use crate::words::right;
+ghost use mathlib.Core.Path.{_≡_};
+ghost use mathlib.Core.Bool.{false, _||_, _&&_, not};
+ghost use Prim.Native.Nat.{_+_, _<_};
+ghost use lib.Dec.{eqb};
+ghost use lib.ListN.{length, getD, set};
+ghost use Rattle.table.specs.Table.{rootOf};
+ghost use Rattle.table.specs.Refusal.{badLinks, named};
+ghost use Rattle.table.specs.Steps.{Listed, Blank, Tallied, notOnce};
+
+// One more link to record k.
+fn tick(tally: &mut [u16], k: usize)
+    requires { ⌜ (k < length (now tally)) × (getD (now tally) k 0 < 65535) ⌝ }
+    ensures { λ _. ⌜ now (tally .exit) ≡ set (now (tally .entry)) k (getD (now (tally .entry)) k 0 + 1) ⌝ }
+{
+    tally[k] += 1;
+}
+
+// Counts the links to each record.
+fn count(table: &[u8], chain: &[u16], nodes: usize, tally: &mut [u16])
+    requires { ⌜ Listed (now table) nodes (now chain) ⌝ }
+    requires { ⌜ badLinks (now table) ≡ false ⌝ }
+    requires { ⌜ Blank (now tally) ⌝ }
+    ensures { λ _. ⌜ Tallied (now (table .entry)) (now (tally .exit)) ⌝ }
+{
+    let mut i = 0;
+    while i < nodes {
+        let k = chain[i] as usize;
+        tick(tally, left(table, k));
+        tick(tally, right(table, k));
+        i += 1;
+    }
+}
+
+// Whether record k is another than the root and not named exactly once.
+fn odd(tally: &[u16], root: usize, k: usize) -> bool
+    requires { ⌜ k < length (now tally) ⌝ }
+    ensures { λ r. ⌜ r ≡ (not (eqb k root) && not (eqb (getD (now (tally .entry)) k 0) 1)) ⌝ }
+{
+    if k == root {
+        return false;
+    }
+    tally[k] != 1
+}
+
+// Whether a chained node is so.
+fn uneven(table: &[u8], chain: &[u16], nodes: usize, tally: &[u16], root: usize) -> bool
+    requires { ⌜ Listed (now table) nodes (now chain) ⌝ }
+    requires { ⌜ Tallied (now table) (now tally) ⌝ }
+    requires { ⌜ root ≡ rootOf (now table) ⌝ }
+    ensures { λ r. ⌜ r ≡ notOnce (now (table .entry)) ⌝ }
+{
+    let mut i = 0;
+    while i < nodes {
+        if odd(tally, root, chain[i] as usize) {
+            return true;
+        }
+        i += 1;
+    }
+    false
+}
+
+// Whether the root is named, or another chained node not exactly once.
+pub fn misnamed(table: &[u8], chain: &[u16], nodes: usize, root: usize) -> bool
+    requires { ⌜ Listed (now table) nodes (now chain) ⌝ }
+    requires { ⌜ badLinks (now table) ≡ false ⌝ }
+    requires { ⌜ root ≡ rootOf (now table) ⌝ }
+    requires { ⌜ root < 4097 ⌝ }
+    ensures { λ r. ⌜ r ≡ (not (eqb (named (now (table .entry)) root) 0) || notOnce (now (table .entry))) ⌝ }
+{
+    let mut tally = [0u16; 4097];
+    count(table, chain, nodes, &mut tally);
+    if tally[root] != 0 {
+        return true;
+    }
+    uneven(table, chain, nodes, &tally, root)
+}

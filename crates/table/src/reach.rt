@@ -1,0 +1,77 @@
+// The nodes that are reached from the root, and the sizes of their subtrees.
+use crate::words::left;
+use crate::words::right;
+ghost use mathlib.Core.Path.{_≡_};
+ghost use mathlib.Core.Bool.{true, not};
+ghost use mathlib.Core.List.{_++_, [], _∷_};
+ghost use Prim.Native.Nat.{_+_, _≤_, _<_};
+ghost use lib.ListN.{length, getD, take};
+ghost use Rattle.table.specs.Table.{chain as chainOf};
+ghost use Rattle.table.specs.Refusal.{fault};
+ghost use Rattle.table.specs.Steps.{Rooted, Queue, Filled, present, notReached};
+
+// Puts a link that is not zero at the end of the order.
+fn push(order: &mut [u16], tail: usize, link: usize) -> usize
+    requires { ⌜ tail + length (present (link ∷ [])) ≤ length (now order) ⌝ }
+    requires { ⌜ link < 65536 ⌝ }
+    ensures { λ r. ⌜ r ≡ tail + length (present (link ∷ [])) ⌝ }
+    ensures { λ r. ⌜ take r (now (order .exit)) ≡ take tail (now (order .entry)) ++ present (link ∷ []) ⌝ }
+{
+    if link == 0 {
+        return tail;
+    }
+    order[tail] = link as u16;
+    tail + 1
+}
+
+// Lists the nodes that are reached, breadth first, and counts them.
+fn spread(table: &[u8], order: &mut [u16]) -> usize
+    requires { ⌜ Rooted (now table) ⌝ }
+    requires { ⌜ length (now order) ≡ 4097 ⌝ }
+    ensures { λ r. ⌜ (r ≤ 4097) × Queue (now (table .entry)) r (take r (now (order .exit))) ⌝ }
+{
+    order[0] = left(table, 0) as u16;
+    let mut head = 0;
+    let mut tail = 1;
+    while head < tail {
+        let k = order[head] as usize;
+        tail = push(order, tail, left(table, k));
+        tail = push(order, tail, right(table, k));
+        head += 1;
+    }
+    tail
+}
+
+// The sizes of the subtrees, from the last node of the order to the first.
+fn measure(table: &[u8], order: &[u16], nodes: usize, sizes: &mut [u16])
+    requires { ⌜ fault (now table) ≡ 0 ⌝ }
+    requires { ⌜ (nodes ≤ length (now order)) × Queue (now table) nodes (take nodes (now order)) ⌝ }
+    requires { ⌜ Filled (now table) [] (now sizes) ⌝ }
+    ensures { λ _. ⌜ Filled (now (table .entry)) (take nodes (now (order .entry))) (now (sizes .exit)) ⌝ }
+{
+    let mut i = nodes;
+    while 0 < i {
+        i -= 1;
+        let k = order[i] as usize;
+        let l = sizes[left(table, k)] as usize;
+        let r = sizes[right(table, k)] as usize;
+        sizes[k] = (1 + l + r) as u16;
+    }
+}
+
+// Whether all the nodes are reached; then fills the sizes.
+pub fn reaches(table: &[u8], nodes: usize, sizes: &mut [u16]) -> bool
+    requires { ⌜ Rooted (now table) ⌝ }
+    requires { ⌜ nodes ≡ length (chainOf (now table)) ⌝ }
+    requires { ⌜ Filled (now table) [] (now sizes) ⌝ }
+    ensures { λ r. ⌜ r ≡ not (notReached (now (table .entry))) ⌝ }
+    ensures { λ r. ⌜ (r ≡ true → Filled (now (table .entry)) (chainOf (now (table .entry))) (now (sizes .exit))) ⌝ }
+{
+    let mut order = [0u16; 4097];
+    let reached = spread(table, &mut order);
+    if reached != nodes {
+        return false;
+    }
+    measure(table, &order, nodes, sizes);
+    true
+}
