@@ -1,5 +1,5 @@
 -- Along a spine, from its end to its start: what the steps place is untangled (`along`), given as much of the hung drawings (`Drawn`) and the roles of steps 1 and 2 (`Proper`).
-use mathlib.Core.Path.{_≡_, refl}
+use mathlib.Core.Path.{_≡_}
 use mathlib.Core.List.{List, [], _∷_}
 use Prim.Native.Nat.{ℕ, suc, _+_, _*_, _^_, _≤_, _<_, max}
 use native.Mathlib.Nat.{mul-le-mul-left}
@@ -9,7 +9,7 @@ use Rattle.table.specs.Table.{Side, left, right}
 use Rattle.table.specs.Tree.{Tree, size}
 use Rattle.layout.specs.Layout.{Layout, blank, placed, width, height, shift}
 use Rattle.layout.specs.Spine.{knee, ordinary, switch}
-use Rattle.layout.specs.Drawing.{Part, part, join, Rest, place}
+use Rattle.layout.specs.Drawing.{Part, part, join, place}
 use Rattle.layout.proofs.Clean.{Rooted, rooted}
 use Rattle.layout.proofs.Points.{PointOf, bare, UntangledAt, order-at, point-rooted, rooted-high}
 use Rattle.layout.proofs.Motions.{untangled-shift, shift-within, width-shift, root-shift}

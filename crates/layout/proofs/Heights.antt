@@ -9,10 +9,10 @@ use Rattle.segment.specs.declared.Point.{Point}
 use Rattle.segment.specs.Segment.{at}
 use Rattle.table.specs.Table.{Side, left, right}
 use Rattle.table.specs.Tree.{Tree, size}
-use Rattle.layout.specs.Layout.{Layout, blank, placed, height, shift, flip}
+use Rattle.layout.specs.Layout.{Layout, blank, height, shift, flip}
 use Rattle.layout.specs.Spine.{knee, ordinary, switch}
 use Rattle.layout.specs.Drawing.{Part, part, join, place}
-use Rattle.layout.proofs.Clean.{Node, root, below, point}
+use Rattle.layout.proofs.Clean.{root, below}
 use Rattle.layout.proofs.Points.{rooted-high}
 use Rattle.layout.proofs.Motions.{height-shift, height-shifted, height-flip}
 use Rattle.layout.proofs.Rows.{shape, count, HoldsRow, row-shift, row-flip, count-shift, count-flip}

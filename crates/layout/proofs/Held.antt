@@ -7,17 +7,17 @@ use Prim.Native.Nat.{ℕ, suc, _+_, _≤_, max}
 use native.Mathlib.Omega.{arith}
 use Rattle.segment.specs.Segment.{at}
 use Rattle.table.specs.Table.{Side, left, right}
-use Rattle.table.specs.Tree.{Tree, none, node, size}
+use Rattle.table.specs.Tree.{Tree, size}
 use Rattle.layout.specs.Layout.{Layout, blank, placed, width, height, shift, flip}
 use Rattle.layout.specs.Spine.{SpineNode, hangs, Role, knee, ordinary, switch, opposite, seen, roleAfter, handAfter, assigned, rolesAfter}
-use Rattle.layout.specs.Drawing.{Part, part, hang, widest, join, Rest, place, draw}
+use Rattle.layout.specs.Drawing.{Part, part, hang, widest, join, place, draw}
 use Rattle.layout.specs.Held.{facing, inwards, put, hungOn, heightOn, widthOn, spineOn, roleNext, far, lay, rolesOn, widestOn, Frame, Fit}
 use Rattle.layout.proofs.Motions.{width-shift, width-shifted, width-flip}
 use Rattle.layout.proofs.Rows.{shape, count, size-facing}
 use Rattle.layout.proofs.Steps.{wide-join}
 use Rattle.layout.proofs.Heights.{last}
 use Rattle.layout.proofs.Spines.{spineTree, Light, light-end, light-node, light-spine, light-seen, size-seen, Goes, goes-on, parts}
-use Rattle.layout.proofs.Whole.{whole, draw-rows}
+use Rattle.layout.proofs.Whole.{draw-rows}
 use Rattle.layout.proofs.Theorem.{promise}
 use Rattle.layout.proofs.Sides.{sideOn, spine-on, partsOn, parts-on, draw-on, Exact, put-flip, held-join, same-node}
 
@@ -68,7 +68,7 @@ abbrev pub Inside : (B : ℕ) → Side → (e w : ℕ) → Type 0
 Inside B left e w = e + w ≤ B
 Inside B right e w = (w ≤ suc e) × (suc e ≤ B)
 
--- So are those of each spine node from here on, and of what hangs from it. At a switch the whole frame is, so that the other hand's edge is w = W + 2 columns inwards.
+-- So are those of each spine node from here on, and of what hangs from it. At a switch the whole frame is, and the other hand's edge f is W + 2 columns inwards.
 pub data Rooms (B W : ℕ) : Side → (e f : ℕ) → Role → List SpineNode → Type 0 where
   no-rooms : {a : Side} {e f : ℕ} {o : Role} → Rooms B W a e f o []
   knee-room : {a s : Side} {e f k : ℕ} {S : Tree} {ls : List SpineNode} → Inside B a e (1 + widthOn a S) → Rooms B W a e f (roleNext a knee ls) ls → Rooms B W a e f knee (hangs k s S ∷ ls)
@@ -95,13 +95,15 @@ place-wide W H r p (part switch k s D ∷ ps) w =
     omega (arith, wide-join k (at 1 r) s (shift 1 (r + 1) D) (flip (W + 2) N), width-flip (W + 2) N, width-shift 1 (r + 1) D)
 
 -- After a switch comes a knee, in column 0, so that the flipped rest is as wide as the frame.
+knee-wide : (W H r p k : ℕ) (s : Side) (D : Layout) (ps : List Part) → W + 3 ≤ width (flip (W + 2) (place W H r p (part knee k s D ∷ ps) .drawn))
+unfolding place flip width
+knee-wide W H r p k left D ps = omega arith
+knee-wide W H r p k right D ps = omega arith
+
 turned-wide : (W H r p : ℕ) {a : Side} {ls : List SpineNode} {ps : List Part} → 1 ≤ size (spineTree ls) → Told a (roleNext a switch ls) ls ps → W + 3 ≤ width (flip (W + 2) (place W H r p ps .drawn))
-unfolding place flip width roleNext roleAfter sideOn opposite spineTree size
+unfolding roleNext roleAfter spineTree size
 turned-wide W H r p g ended = absurd (omega arith)
-turned-wide W H r p g (told {a = left} {s = left} h z) = omega arith
-turned-wide W H r p g (told {a = left} {s = right} h z) = omega arith
-turned-wide W H r p g (told {a = right} {s = left} h z) = omega arith
-turned-wide W H r p g (told {a = right} {s = right} h z) = omega arith
+turned-wide W H r p g (told {a} {s} {k} {S} {ps} h z) = knee-wide W H r p k (sideOn a s) (draw (facing a S)) ps
 
 -- The other hand's edge, where the frame is among the columns; the frame from there.
 exact : (B W : ℕ) (a : Side) (e f : ℕ) → Frame a e f (W + 2) → Inside B a e (W + 3) → Exact a e f (W + 2)

@@ -1,8 +1,10 @@
--- The laws of the drawing. The theorem: Theorem, Records. The geometry: Clean to Along. The rows: Rows, Heights. From the spine to the tree: Spines, Whole.
+-- The laws of the drawing. What is promised: Clean, Theorem, Records. The geometry: Points to Along. The rows: Rows, Heights. From a spine to the tree: Spines, Whole.
+-- The form that the drawer's code follows: Sides, Held, Width.
 pub mod Clean
 pub mod Points
 pub mod Meet
 pub mod Motions
+pub mod CleanMotions
 pub mod Rows
 pub mod Steps
 pub mod Along
@@ -13,3 +15,4 @@ pub mod Theorem
 pub mod Records
 pub mod Sides
 pub mod Held
+pub mod Width

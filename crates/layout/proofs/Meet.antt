@@ -1,6 +1,6 @@
 -- An untangled drawing is clean (`untangled-clean`), since two pieces of it that share a point are one, or the point is a node at which both end (`meet`).
 use mathlib.Core.Path.{_≡_, refl, ap, sym, subst, _∙_}
-use mathlib.Core.Logic.{_⊎_, inl, inr, ⊎-map, _≢_}
+use mathlib.Core.Logic.{inl, inr, ⊎-map, _≢_}
 use Prim.Native.Nat.{ℕ, _+_, _*_, _≤_, _<_}
 use native.Mathlib.Nat.{mul-le-mul-left}
 use native.Mathlib.Omega.{arith}
@@ -8,7 +8,7 @@ use Rattle.segment.specs.declared.Point.{Point}
 use Rattle.segment.specs.Segment.{Is}
 use Rattle.table.specs.Table.{Side, left, right}
 use Rattle.layout.specs.Layout.{Layout, placed}
-use Rattle.layout.proofs.Clean.{onSide, Rooted, rooted, Kind, a-node, an-edge, Piece, root, edge, below, Node, Edge, top, point, parent, child, side, Ends, Before, Clean}
+use Rattle.layout.proofs.Clean.{onSide, Rooted, rooted, Kind, Piece, root, edge, below, Node, Edge, top, point, parent, child, side, Ends, Before, Clean}
 use Rattle.layout.proofs.Points.{Between, between, itself, at-itself, weighed, at-end, falls, Along, pointOn, EdgeTo, Lower, Order, Untangled, fork, low, untangled, deep, low-top, under-top}
 
 -- ---- pairs of pieces
@@ -53,7 +53,7 @@ one-top rooted rooted = refl
 -- ---- any two pieces
 
 -- One and the same piece.
-data Alike (c : Kind) (L : Layout) (p : Piece c L) : (d : Kind) → Piece d L → Type 0 where
+pub data Alike (c : Kind) (L : Layout) (p : Piece c L) : (d : Kind) → Piece d L → Type 0 where
   alike : Alike c L p c p
 
 -- The two pieces are one, or both end at a node n, which is at (x, y) / q.
@@ -107,7 +107,7 @@ meet (fork c d j o) (below right p) (below right r) one m n = met-below right (m
 
 -- ---- untangled drawings are clean
 
-node-ends : {L : Layout} (n : Node L) → (parent n ≡ n) × (child n ≡ n)
+pub node-ends : {L : Layout} (n : Node L) → (parent n ≡ n) × (child n ≡ n)
 node-ends root = (refl, refl)
 node-ends (below s n) = (ap (below s) (node-ends n .0), ap (below s) (node-ends n .1))
 

@@ -1,14 +1,14 @@
 -- The motions keep a drawing untangled (`untangled-shift`, `untangled-flip`): a point of the moved drawing is a point of the drawing, moved back (`shifted`, `flipped`).
 -- A shifted drawing is within its rectangle (`shift-within`).
 use mathlib.Core.Path.{_≡_, refl, ap, ap₂}
-use Prim.Native.Nat.{ℕ, suc, _+_, _*_, _-_, _≤_, _<_, max}
+use Prim.Native.Nat.{ℕ, suc, _+_, _*_, _-_, _≤_}
 use native.Mathlib.Omega.{arith}
 use Rattle.segment.specs.declared.Point.{Point}
 use Rattle.segment.specs.Segment.{at}
 use Rattle.table.specs.Table.{left, right}
 use Rattle.layout.specs.Layout.{Layout, blank, placed, width, height, shift, flip}
 use Rattle.layout.proofs.Clean.{Rooted, rooted, Kind, Piece, root, edge, below, Node, top, point, Before}
-use Rattle.layout.proofs.Points.{Between, weighed, Along, PointOf, pointOn, EdgeTo, point-edge, point-below, Lower, RootAt, Order, Apart, exchange, Untangled, bare, fork, NodeWithin, Within, point-within}
+use Rattle.layout.proofs.Points.{Between, weighed, Along, PointOf, pointOn, EdgeTo, point-edge, point-below, Lower, RootAt, Order, exchange, Untangled, bare, fork, NodeWithin, Within, point-within}
 
 -- ---- shift
 

@@ -1,6 +1,6 @@
 -- The points of a drawing, and `Untangled`: the form of 21 to 24 in which the argument goes, by induction over the layout.
--- An untangled drawing has its root alone in its top row (`pointed`), and a drawing's points are in the rectangle of its nodes (`point-within`).
-use mathlib.Core.Path.{_≡_, refl, ap, subst, _∙_}
+-- An untangled drawing has its root alone in its top row (`under-top`), and a drawing's points are in the rectangle of its nodes (`point-within`).
+use mathlib.Core.Path.{_≡_, ap, subst, _∙_}
 use Prim.Native.Nat.{ℕ, suc, _+_, _*_, _-_, _≤_, _<_}
 use native.Mathlib.Nat.{mul-le-mul-left}
 use native.Mathlib.Omega.{arith}

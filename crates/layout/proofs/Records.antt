@@ -2,7 +2,7 @@
 -- Any plan that gives the nodes of a tree the points of its drawing passes (`drawn-checked`).
 use mathlib.Core.Path.{_≡_, refl, ap, sym, subst, subst₂, _∙_}
 use mathlib.Core.Logic.{_⊎_, ⊎-map, _≢_}
-use Prim.Native.Nat.{ℕ, _+_, _*_, _≤_, _<_}
+use Prim.Native.Nat.{ℕ, _*_, _≤_, _<_}
 use Rattle.segment.specs.declared.Point.{Point}
 use Rattle.segment.specs.Segment.{On}
 use Rattle.table.specs.Table.{Side, left, right}

@@ -1,17 +1,17 @@
 -- From the spine to what hangs from it: a hung subtree has less than half of the nodes (`light-spine`), the roles are proper (`proper`), and what is placed has the
 -- spine's tree (`shaped`).
-use mathlib.Core.Path.{_≡_, refl, ap, ap₂, subst, sym, _∙_}
+use mathlib.Core.Path.{_≡_, refl, ap, ap₂, _∙_}
 use mathlib.Core.Bool.{Bool, true, false, not}
 use mathlib.Core.List.{List, [], _∷_, map}
-use Prim.Native.Nat.{ℕ, suc, _+_, _*_, _≤_, _<_, max}
+use Prim.Native.Nat.{ℕ, suc, _+_, _*_, _≤_, _<_}
 use native.Mathlib.Omega.{arith}
 use lib.Dec.{T, leb, leb→le, nleb→lt}
 use Rattle.segment.specs.declared.Point.{Point}
 use Rattle.table.specs.Table.{Side, left, right}
 use Rattle.table.specs.Tree.{Tree, none, node, size}
-use Rattle.layout.specs.Layout.{Layout, blank, placed, width, shift, flip, mirror}
+use Rattle.layout.specs.Layout.{Layout, blank, placed, width, mirror}
 use Rattle.layout.specs.Spine.{SpineNode, hangs, spine, Role, knee, ordinary, switch, opposite, seen, runRole, roleAfter, handAfter, assigned, rolesAfter, roles}
-use Rattle.layout.specs.Drawing.{Part, part, hang, widest, join, Rest, place}
+use Rattle.layout.specs.Drawing.{Part, part, hang, widest, join, place}
 use Rattle.layout.specs.Held.{facing}
 use Rattle.layout.proofs.Clean.{Rooted, rooted}
 use Rattle.layout.proofs.Rows.{shape, mirror-twice, size-mirror, shape-shift, shape-flip}

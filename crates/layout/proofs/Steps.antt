@@ -1,17 +1,17 @@
 -- One spine node, with the drawing D of what hangs from it and the drawing N from the next spine node on: a lemma for each role (`step-knee-right`,
 -- `step-knee-left`, `step-ordinary`, `step-switch`) keeps the whole untangled, with its points where the step before expects them. Rows do nearly all the work; columns break the ties.
 use mathlib.Core.Path.{_≡_, refl}
-use Prim.Native.Nat.{ℕ, suc, _+_, _*_, _-_, _≤_, _<_, max}
+use Prim.Native.Nat.{ℕ, suc, _+_, _*_, _≤_, _<_, max}
 use native.Mathlib.Nat.{mul-le-mul-left, mul-le-mul-right}
 use native.Mathlib.Decide.{decLt}
 use native.Mathlib.Omega.{arith}
 use Rattle.segment.specs.declared.Point.{Point}
 use Rattle.segment.specs.Segment.{at, Is}
 use Rattle.table.specs.Table.{Side, left, right}
-use Rattle.layout.specs.Layout.{Layout, blank, placed, width, flip}
+use Rattle.layout.specs.Layout.{Layout, placed, width, flip}
 use Rattle.layout.specs.Drawing.{join}
-use Rattle.layout.proofs.Clean.{Rooted, rooted, Kind, Piece, root, edge, below, Before}
-use Rattle.layout.proofs.Points.{Between, at-itself, falls, Along, PointOf, pointOn, EdgeTo, RootAt, Order, Apart, exchange, Untangled, fork, point-rooted, UntangledAt, low-at, edge-at, under-at, order-at, Within}
+use Rattle.layout.proofs.Clean.{Rooted, Kind, Piece, root, edge, below}
+use Rattle.layout.proofs.Points.{Between, at-itself, falls, Along, PointOf, pointOn, EdgeTo, Order, Apart, exchange, fork, point-rooted, UntangledAt, low-at, edge-at, under-at, order-at, Within}
 use Rattle.layout.proofs.Motions.{flipped, untangled-flip, width-flip, root-flip}
 
 -- ---- what is known of D and N

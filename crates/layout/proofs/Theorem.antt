@@ -22,7 +22,7 @@ pub record Promise (t : Tree) (L : Layout) : Type 0 where
   -- "The allowed width of n boxes is 3·floor(log2 n) + 1": k is that floor where n is also at least 2 to the power k
   pub narrow : (k : ℕ) → size t < 2 ^ suc k → width L ≤ 3 * k + 1
   pub short : height L ≤ size t
-  -- every row above the height holds a node
+  -- every row from 0 to the height less 1 holds a node
   pub filled : (j : ℕ) → j < height L → HoldsRow L j
 
 pub promise : (t : Tree) → Promise t (draw t)

@@ -1,17 +1,17 @@
 -- From one spine to the whole tree: what is proved of every drawing (`drawn`), and that a drawing is that of its own steps (`draw-law`, `draw-parts`): the bound on
 -- the size is gone.
 use mathlib.Core.Path.{_≡_, refl, ap, ap₂, sym, subst, _∙_}
-use mathlib.Core.List.{List, [], _∷_, map}
-use Prim.Native.Nat.{ℕ, zero, suc, _+_, _*_, _^_, _≤_, _<_, max}
+use mathlib.Core.List.{List, _∷_, map}
+use Prim.Native.Nat.{ℕ, zero, suc, _+_, _*_, _^_, _≤_, _<_}
 use native.Mathlib.Nat.{pow-suc}
 use native.Mathlib.Omega.{arith}
 use Rattle.segment.specs.declared.Point.{Point}
 use Rattle.segment.specs.Segment.{at}
-use Rattle.table.specs.Table.{Side, left, right}
+use Rattle.table.specs.Table.{Side, right}
 use Rattle.table.specs.Tree.{Tree, none, node, size}
 use Rattle.layout.specs.Layout.{Layout, blank, placed, width, height}
 use Rattle.layout.specs.Spine.{SpineNode, hangs, spine, Role, switch, opposite, seen, roleAfter, handAfter, Assigned, assigned, rolesAfter, roles}
-use Rattle.layout.specs.Drawing.{Part, part, hang, widest, Rest, place, steps, drawing, draw}
+use Rattle.layout.specs.Drawing.{Part, part, hang, widest, place, steps, drawing, draw}
 use Rattle.layout.specs.Held.{facing}
 use Rattle.layout.proofs.Clean.{root}
 use Rattle.layout.proofs.Points.{RootAt, bare}

@@ -3,3 +3,4 @@ pub mod Layout
 pub mod Spine
 pub mod Drawing
 pub mod Held
+pub mod Width

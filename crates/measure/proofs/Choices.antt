@@ -1,0 +1,102 @@
+-- The roles that the program chooses are those of step 2, and their numbers tell them apart.
+use mathlib.Core.Bool.{true, false}
+use mathlib.Core.Path.{_≡_, refl, sym, ap, subst, _∙_}
+use mathlib.Core.Logic.{_⊎_, inl, inr}
+use Prim.Native.Nat.{ℕ, _%_, _<_}
+use lib.Dec.{leb, eqb, lit<}
+use Rattle.table.specs.Table.{Side, left, right}
+use Rattle.table.specs.Tree.{Tree, none, node}
+use Rattle.layout.specs.Layout.{mirror}
+use Rattle.layout.specs.Spine.{hangs, Role as LayoutRole, knee, ordinary, switch, opposite, seen, runRole, roleAfter, handAfter}
+use Rattle.measure.specs.declared.Fork.{Fork}
+use Rattle.measure.specs.declared.roles.Role.{Role}
+use Rattle.measure.specs.declared.roles.Role.the-variants.{LeftKnee, OrdinaryLeft, SwitchRight, RightKnee, OrdinaryRight, SwitchLeft}
+use Rattle.measure.specs.Forked.{sideOf}
+use Rattle.measure.specs.Prepared.{codeOf}
+use Rattle.measure.specs.Roles.{handOf, roleOf, Stands, nodeOf, Runs, Follows}
+
+-- Step 2 in a run: a switch exactly where something hangs on the hand's own side.
+run-bare : (a h : Side) (k : ℕ) (S : Tree) → S ≡ none → runRole (seen a (hangs k h S)) ≡ ordinary
+unfolding runRole seen opposite mirror
+run-bare left left k S e = rw e
+run-bare left right k S e = refl
+run-bare right left k S e = refl
+run-bare right right k S e = rw e
+
+run-far : (a : Side) (k : ℕ) (S : Tree) → runRole (seen a (hangs k (opposite a) S)) ≡ ordinary
+unfolding runRole seen opposite
+run-far left k S = refl
+run-far right k S = refl
+
+run-near : (a : Side) (k : ℕ) (S : Tree) → (S ≡ none → ⊥) → runRole (seen a (hangs k a S)) ≡ switch
+unfolding runRole seen opposite mirror
+run-near a k none n = absurd (n refl)
+run-near left k (node i x y) n = refl
+run-near right k (node i x y) n = refl
+
+pub ordinary-runs : (a : Side) (f : Fork) (r : Role) → handOf r ≡ a → roleOf r ≡ ordinary → (f .hung ≡ 0) ⊎ (sideOf (f .«hung_right») ≡ opposite a) → Runs a f r
+ordinary-runs a f r h o (inl e) = record { hand = h; role = λ k S st. o ∙ sym (run-bare a _ k S (st .0 e)) }
+ordinary-runs a f r h o (inr e) = record { hand = h; role = λ k S st. o ∙ sym (rw e (run-far a k S)) }
+
+pub switch-runs : (a : Side) (f : Fork) (r : Role) → handOf r ≡ a → roleOf r ≡ switch → (f .hung ≡ 0 → ⊥) → sideOf (f .«hung_right») ≡ a → Runs a f r
+switch-runs a f r h o n e = record { hand = h; role = λ k S st. o ∙ sym (rw e (run-near a k S (λ i. n (st .1 i)))) }
+
+-- What the program's next role is, by the role before.
+abbrev pub Next : Role → Fork → Role → Type 0
+Next LeftKnee f r = Runs left f r
+Next OrdinaryLeft f r = Runs left f r
+Next SwitchRight f r = r ≡ RightKnee
+Next RightKnee f r = Runs right f r
+Next OrdinaryRight f r = Runs right f r
+Next SwitchLeft f r = r ≡ LeftKnee
+
+pub follows : (v b : Role) (f : Fork) (r : Role) → b ≡ v → Next v f r → Follows b f r
+unfolding roleAfter handAfter opposite
+follows v b f r e n = subst (λ (w : Role). Follows w f r) (sym e) (go v n)
+  where
+    run : (a : Side) → Runs a f r → (k : ℕ) (S : Tree) → Stands f S → roleOf r ≡ runRole (seen (handOf r) (nodeOf f k S))
+    run a s k S st = rw (s .hand) (s .role k S st)
+
+    go : (v : Role) → Next v f r → Follows v f r
+    go LeftKnee s = record { hand = s .hand; role = run left s }
+    go OrdinaryLeft s = record { hand = s .hand; role = run left s }
+    go SwitchRight s = record { hand = ap handOf s; role = λ k S st. ap roleOf s }
+    go RightKnee s = record { hand = s .hand; role = run right s }
+    go OrdinaryRight s = record { hand = s .hand; role = run right s }
+    go SwitchLeft s = record { hand = ap handOf s; role = λ k S st. ap roleOf s }
+
+-- The numbers of the roles.
+handFrom : ℕ → Side
+handFrom n = sideOf (leb 3 n)
+
+roleFrom : ℕ → LayoutRole
+roleFrom n = elim (eqb (n % 3) 0) [ true ↦ knee | false ↦ elim (eqb (n % 3) 1) [ true ↦ ordinary | false ↦ switch ] ]
+
+hand-from : (a : Side) (o : LayoutRole) → handFrom (codeOf a o) ≡ a
+unfolding handFrom
+hand-from left knee = refl
+hand-from left ordinary = refl
+hand-from left switch = refl
+hand-from right knee = refl
+hand-from right ordinary = refl
+hand-from right switch = refl
+
+role-from : (a : Side) (o : LayoutRole) → roleFrom (codeOf a o) ≡ o
+unfolding roleFrom
+role-from left knee = refl
+role-from left ordinary = refl
+role-from left switch = refl
+role-from right knee = refl
+role-from right ordinary = refl
+role-from right switch = refl
+
+pub code-same : (a b : Side) (o p : LayoutRole) → codeOf a o ≡ codeOf b p → (a ≡ b) × (o ≡ p)
+code-same a b o p e = (sym (hand-from a o) ∙ ap handFrom e ∙ hand-from b p, sym (role-from a o) ∙ ap roleFrom e ∙ role-from b p)
+
+pub code-small : (a : Side) (o : LayoutRole) → codeOf a o < 6
+code-small left knee = lit< tt
+code-small left ordinary = lit< tt
+code-small left switch = lit< tt
+code-small right knee = lit< tt
+code-small right ordinary = lit< tt
+code-small right switch = lit< tt

@@ -1,0 +1,142 @@
+-- What is prepared of a tree depends only on the entries at its nodes: counts of nodes along a spine, and frames. Rests on the laws of accepted tables.
+use mathlib.Core.Bool.{Bool, true, false}
+use mathlib.Core.Path.{_≡_, refl, ap, _∙_}
+use mathlib.Core.Logic.{_⊎_, inl, inr, ⊎-elim}
+use mathlib.Core.List.{List, [], _∷_}
+use Prim.Native.Nat.{ℕ, _+_, _≤_, _<_}
+use native.Mathlib.Omega.{arith}
+use lib.Dec.{T, leb}
+use lib.ListN.{getD, length, length-set}
+use lib.Seq.{getD-set-same, getD-set-other}
+use Rattle.table.specs.Lists.{member, count}
+use Rattle.table.specs.Table.{Side, left, right, records, leftOf, rightOf, linkOf, chain}
+use Rattle.table.specs.Tree.{Tree, none, node, size, nodes, treeAt, tree}
+use Rattle.table.specs.Refusal.{fault}
+use Rattle.table.proofs.Lists.{same, same-one, count-append, member-count, repeats-count}
+use Rattle.table.proofs.Chain.{reached}
+use Rattle.table.proofs.Accepted.{links-chained, nodes-distinct, down, tree-unfolds, tree-none}
+use Rattle.layout.specs.Spine.{SpineNode, hangs, Role, seen, roleAfter, handAfter}
+use Rattle.layout.specs.Held.{spineOn, roleNext}
+use Rattle.measure.specs.Sized.{Named}
+use Rattle.measure.specs.Prepared.{codeOf, Prepared, no-spine, a-spine, Along, ended, onward}
+use Rattle.measure.specs.Roles.{withRoles}
+
+-- How often x is a node of the spine or of what hangs from it; of what hangs from it.
+unfoldable pub countOn : ℕ → List SpineNode → ℕ
+countOn x [] = 0
+countOn x (hangs k h S ∷ ls) = same x k + (count x (nodes S) + countOn x ls)
+
+unfoldable pub countHung : ℕ → List SpineNode → ℕ
+countHung x [] = 0
+countHung x (hangs k h S ∷ ls) = count x (nodes S) + countHung x ls
+
+pub hung-on : (x : ℕ) (ls : List SpineNode) → countHung x ls ≤ countOn x ls
+unfolding countOn countHung
+hung-on x [] = omega arith
+hung-on x (hangs k h S ∷ ls) = omega (arith, hung-on x ls)
+
+pub count-node : (x k : ℕ) (a b : Tree) → count x (nodes (node k a b)) ≡ same x k + (count x (nodes a) + count x (nodes b))
+unfolding nodes count
+count-node x k a b = omega (arith, count-append x (nodes a) (nodes b))
+
+pub count-spine : (s : Side) (x : ℕ) (S : Tree) → count x (nodes S) ≡ countOn x (spineOn s S)
+unfolding spineOn countOn
+count-spine s x none = unfold nodes count in refl
+count-spine left x (node k a b) = go (leb (size b) (size a)) (count-spine left x a) (count-spine left x b)
+  where
+    go : (c : Bool) → count x (nodes a) ≡ countOn x (spineOn left a) → count x (nodes b) ≡ countOn x (spineOn left b) →
+        count x (nodes (node k a b)) ≡ countOn x (elim c [ true ↦ hangs k right b ∷ spineOn left a | false ↦ hangs k left a ∷ spineOn left b ])
+    go true h i = omega (arith, count-node x k a b)
+    go false h i = omega (arith, count-node x k a b)
+count-spine right x (node k a b) = go (leb (size a) (size b)) (count-spine right x a) (count-spine right x b)
+  where
+    go : (c : Bool) → count x (nodes a) ≡ countOn x (spineOn right a) → count x (nodes b) ≡ countOn x (spineOn right b) →
+        count x (nodes (node k a b)) ≡ countOn x (elim c [ true ↦ hangs k left a ∷ spineOn right b | false ↦ hangs k right b ∷ spineOn right a ])
+    go true h i = omega (arith, count-node x k a b)
+    go false h i = omega (arith, count-node x k a b)
+
+-- The root of a tree is the first node of its spine.
+pub hung-below : (s : Side) (k : ℕ) (a b : Tree) → 1 + countHung k (spineOn s (node k a b)) ≤ count k (nodes (node k a b))
+unfolding spineOn countHung
+hung-below left k a b = go (leb (size b) (size a))
+  where
+    go : (c : Bool) → 1 + countHung k (elim c [ true ↦ hangs k right b ∷ spineOn left a | false ↦ hangs k left a ∷ spineOn left b ]) ≤ count k (nodes (node k a b))
+    go true = omega (arith, count-node k k a b, same-one k k refl, count-spine left k a, hung-on k (spineOn left a))
+    go false = omega (arith, count-node k k a b, same-one k k refl, count-spine left k b, hung-on k (spineOn left b))
+hung-below right k a b = go (leb (size a) (size b))
+  where
+    go : (c : Bool) → 1 + countHung k (elim c [ true ↦ hangs k left a ∷ spineOn right b | false ↦ hangs k right b ∷ spineOn right a ]) ≤ count k (nodes (node k a b))
+    go true = omega (arith, count-node k k a b, same-one k k refl, count-spine right k b, hung-on k (spineOn right b))
+    go false = omega (arith, count-node k k a b, same-one k k refl, count-spine right k a, hung-on k (spineOn right a))
+
+-- The nodes of a subtree of an accepted table are chained, and none stands in it twice.
+pub nodes-named : (t : List ℕ) → fault t ≡ 0 → (k : ℕ) → Named t k → (x : ℕ) → 1 ≤ count x (nodes (treeAt t k)) → Named t x
+nodes-named t ok k n x h = reached (Named t) t step (records t) k n x (member-count x (nodes (treeAt t k)) .1 h)
+  where
+    step : (m : ℕ) (s : Side) → 0 < m → Named t m → Named t (linkOf t s m)
+    step m s z = ⊎-elim (λ (e : m ≡ 0). absurd (omega arith)) (λ (c : T (member m (chain t))). links-chained t ok m s c)
+
+pub once : (t : List ℕ) → fault t ≡ 0 → (k : ℕ) → Named t k → (x : ℕ) → count x (nodes (treeAt t k)) ≤ 1
+once t ok k (inl e) x = rw (e, tree-none t) (unfold nodes count in omega arith)
+once t ok k (inr h) x = down t ok (λ n. count x (nodes (treeAt t n)) ≤ 1) (λ m. repeats-count (nodes (tree t)) .0 (nodes-distinct t ok) x) step k h
+  where
+    split : (n : ℕ) → T (member n (chain t)) → count x (nodes (treeAt t n)) ≡ same x n + (count x (nodes (treeAt t (leftOf t n))) + count x (nodes (treeAt t (rightOf t n))))
+    split n m = ap (λ (S : Tree). count x (nodes S)) (tree-unfolds t ok n m) ∙ count-node x n _ _
+
+    step : (n : ℕ) (s : Side) → T (member n (chain t)) → T (member (linkOf t s n) (chain t)) → count x (nodes (treeAt t n)) ≤ 1 → count x (nodes (treeAt t (linkOf t s n))) ≤ 1
+    step n left m m′ p = omega (arith, split n m)
+    step n right m m′ p = omega (arith, split n m)
+
+-- Two lists agree where c counts.
+abbrev pub Agree : (ℕ → ℕ) → List ℕ → List ℕ → Type 0
+Agree c xs ys = (x : ℕ) → 1 ≤ c x → getD ys x 0 ≡ getD xs x 0
+
+mutual
+  unfolding countOn countHung
+
+  pub prepared-frame : {R G : List ℕ} (R′ G′ : List ℕ) {s : Side} {S : Tree} → Prepared R G s S → Agree (λ x. count x (nodes S)) R R′ → Agree (λ x. count x (nodes S)) G G′ → Prepared R′ G′ s S
+  prepared-frame R′ G′ no-spine f g = no-spine
+  prepared-frame R′ G′ (a-spine {s} {k} {a} {b} w l) f g =
+      a-spine (g k (omega (arith, count-node k k a b, same-one k k refl)) ∙ w)
+      (along-frame R′ G′ l (λ x h. f x (omega (arith, count-spine s x (node k a b)))) (λ x h. g x (omega (arith, count-spine s x (node k a b), hung-on x (spineOn s (node k a b))))))
+
+  pub along-frame : {R G : List ℕ} (R′ G′ : List ℕ) {a : Side} {o : Role} {ls : List SpineNode} → Along R G a o ls → Agree (λ x. countOn x ls) R R′ → Agree (λ x. countHung x ls) G G′ → Along R′ G′ a o ls
+  along-frame R′ G′ ended f g = ended
+  along-frame R′ G′ (onward {k} {S} {ls} c p l) f g =
+      onward (f k (omega (arith, same-one k k refl)) ∙ c)
+      (prepared-frame R′ G′ p (λ x h. f x (omega arith)) (λ x h. g x (omega arith)))
+      (along-frame R′ G′ l (λ x h. f x (omega arith)) (λ x h. g x (omega arith)))
+
+-- The roles from a spine node on, which follows a node of role o on the hand s, stand in the list R.
+abbrev pub Coded : List ℕ → Side → Role → List SpineNode → Type 0
+Coded R s o [] = Unit {0}
+Coded R s o (hangs k h S ∷ ls) =
+    (getD R k 0 ≡ codeOf (handAfter o s) (roleAfter o (seen (handAfter o s) (hangs k h S)))) × Coded R (handAfter o s) (roleAfter o (seen (handAfter o s) (hangs k h S))) ls
+
+pub coded-frame : (R R′ : List ℕ) (s : Side) (o : Role) (ls : List SpineNode) → Coded R s o ls → Agree (λ x. countOn x ls) R R′ → Coded R′ s o ls
+unfolding countOn
+coded-frame R R′ s o [] c f = tt
+coded-frame R R′ s o (hangs k h S ∷ ls) c f = (f k (omega (arith, same-one k k refl)) ∙ c .0, coded-frame R R′ _ _ ls (c .1) (λ x i. f x (omega arith)))
+
+-- Keeping the roles of a spine changes nothing elsewhere, and they stand in the list afterwards.
+pub with-kept : (s : Side) (o : Role) (ls : List SpineNode) (rs : List ℕ) (x : ℕ) → countOn x ls ≡ 0 → getD (withRoles s o ls rs) x 0 ≡ getD rs x 0
+unfolding withRoles countOn
+with-kept s o [] rs x n = refl
+with-kept s o (hangs k h S ∷ ls) rs x n = with-kept _ _ ls _ x (omega arith) ∙ getD-set-other rs k x _ 0 (λ e. omega (arith, same-one x k e))
+
+pub with-coded : (s : Side) (o : Role) (ls : List SpineNode) (rs : List ℕ) → ((x : ℕ) → countOn x ls ≤ 1) → ((x : ℕ) → 1 ≤ countOn x ls → x < length rs) → Coded (withRoles s o ls rs) s o ls
+unfolding withRoles countOn
+with-coded s o [] rs d i = tt
+with-coded s o (hangs k h S ∷ ls) rs d i = (
+  with-kept _ _ ls _ k (omega (arith, d k, same-one k k refl)) ∙ getD-set-same rs k _ 0 (i k (omega (arith, same-one k k refl))),
+  with-coded _ _ ls _ (λ x. omega (arith, d x)) (λ x j. simp length-set (i x (omega arith))),
+)
+
+-- What is prepared along a spine, after a node of role o on the hand a; with one more node before it.
+abbrev pub AlongAfter : List ℕ → List ℕ → Side → Role → List SpineNode → Type 0
+AlongAfter R G a o ls = Along R G (handAfter o a) (roleNext (handAfter o a) o ls) ls
+
+pub along-node : {R G : List ℕ} (a : Side) (o : Role) (k : ℕ) (h : Side) (S : Tree) (ls : List SpineNode) → let a′ = handAfter o a in let o′ = roleAfter o (seen a′ (hangs k h S)) in
+    getD R k 0 ≡ codeOf a′ o′ → Prepared R G a′ S → AlongAfter R G a′ o′ ls → AlongAfter R G a o (hangs k h S ∷ ls)
+unfolding roleNext
+along-node a o k h S ls c p l = onward c p l

@@ -1,0 +1,6 @@
+-- The laws that the functions of this crate rest on.
+pub mod Forks
+pub mod Choices
+pub mod Spines
+pub mod Frames
+pub mod Walks
