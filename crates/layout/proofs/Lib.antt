@@ -1,5 +1,5 @@
 -- The laws of the drawing. What is promised: Clean, Theorem, Records. The geometry: Points to Along. The rows: Rows, Heights. From a spine to the tree: Spines, Whole.
--- The form that the drawer's code follows: Sides, Held, Width.
+-- The form that the drawer's code follows: Sides, Held, Width. No shared rows: Apart, ApartAlong, EverySpine.
 pub mod Clean
 pub mod Points
 pub mod Meet
@@ -16,3 +16,6 @@ pub mod Records
 pub mod Sides
 pub mod Held
 pub mod Width
+pub mod Apart
+pub mod ApartAlong
+pub mod EverySpine

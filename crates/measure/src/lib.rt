@@ -2,11 +2,10 @@
 mod hung;
 pub mod roles;
 mod walk;
-mod words;
 
 use crate::hung::measure_left;
-use crate::words::left;
-use crate::words::right;
+use table::words::left;
+use table::words::right;
 ghost use mathlib.Core.Path.{_≡_};
 ghost use mathlib.Core.Bool.{cond};
 ghost use lib.Dec.{T, leb, ltb};

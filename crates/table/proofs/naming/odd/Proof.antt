@@ -1,23 +1,18 @@
+-- `odd` answers whether one record is another than the root and not named exactly once.
 use borrow.Author.Tests.{eq-eqb, ne-eqb}
 use borrow.Author.Needs.{needs}
 use Rattle.table.proofs.naming.odd.Statement.{statement}
 use Rattle.table.proofs.naming.odd.Tie as tie
-use Rattle.table.proofs.naming.odd.Reads as reads
-use Rattle.table.proofs.naming.odd.Lts as lts
 
--- src/naming.rt:37:9
 returns : tie.Need-returns
 returns c = simp (eq-eqb _ _ (c .if1 .taken))
 
--- src/naming.rt:39:5
 mul-result : tie.Need-mul-result
 mul-result c = search needs
 
--- src/naming.rt:39:5
 shared-slice-read-result : tie.Need-shared-slice-read-result
 shared-slice-read-result c = search needs
 
--- src/naming.rt:32:1
 returns-2 : tie.Need-returns-2
 returns-2 c = simp (ne-eqb _ _ (c .before .if1 .left))
 

@@ -1,21 +1,18 @@
 -- `uneven` answers whether a node other than the root is not named exactly once. The loop keeps that no record passed is so.
-use mathlib.Core.Path.{_≡_, sym, ap, _∙_}
-use mathlib.Core.Bool.{Bool, true, false, not, _&&_}
+use mathlib.Core.Path.{_≡_, sym, _∙_}
+use mathlib.Core.Bool.{Bool, false, not, _&&_}
 use mathlib.Core.List.{List}
 use Prim.Native.Nat.{ℕ, _-_, _≤_, _<_}
 use native.Mathlib.Omega.{arith}
 use borrow.Author.Count.{below-none, below-more}
 use lib.Dec.{eqb}
-use lib.ListN.{length, getD}
+use lib.ListN.{getD}
 use Rattle.table.specs.Table.{rootOf}
 use Rattle.table.specs.Refusal.{named}
 use Rattle.table.specs.Steps.{Tallied, notOnce}
 use Rattle.table.proofs.Scan.{listed-inside, scan-hit, scan-none}
 use Rattle.table.proofs.naming.uneven.Statement.{statement}
 use Rattle.table.proofs.naming.uneven.Tie as tie
-use Rattle.table.proofs.naming.uneven.Reads as reads
-use Rattle.table.proofs.naming.uneven.Lts as lts
-use Rattle.table.proofs.naming.odd.Reads as odd-reads
 
 abbrev odd : List ℕ → ℕ → Bool
 odd t k = not (eqb k (rootOf t)) && not (eqb (named t k) 1)
@@ -29,29 +26,23 @@ Inv-loop table chain nodes tally root i₀ i = (i ≤ nodes) × ((j : ℕ) → j
 abbrev μ-loop : tie.MeasureT-loop
 μ-loop table chain nodes tally root i₀ i = nodes - i
 
--- src/naming.rt:50:5
 loop-holds : tie.Need-loop-holds Inv-loop μ-loop
 loop-holds c = (omega arith, below-none _)
 
--- src/naming.rt:51:29
 mul-odd : tie.Need-mul-odd Inv-loop μ-loop
 mul-odd c = omega arith
 
--- src/naming.rt:51:29
 shared-slice-read-odd : tie.Need-shared-slice-read-odd Inv-loop μ-loop
 shared-slice-read-odd c = omega arith
 
--- src/naming.rt:51:29
 cast-odd : tie.Need-cast-odd Inv-loop μ-loop
 cast-odd c = omega (arith, c .shared-slice-known4 .given (c .before .before .loop .i))
 
--- src/naming.rt:51:12
 odd-requires : tie.Need-odd-requires Inv-loop μ-loop
 odd-requires c κs =
     let p = c .before .before .before .before .before .before .pre in
     omega (arith, listed-inside _ _ _ (p .0) _ (c .before .loop-test .taken), p .0 .shaped .room, p .1 .0 .long)
 
--- src/naming.rt:52:13
 returns : tie.Need-returns Inv-loop μ-loop
 unfolding notOnce
 returns c =
@@ -60,15 +51,12 @@ returns c =
     (scan-hit _ _ _ (s .pre .0) (odd (s .args .table .now)) _ (c .before .before .before .loop-test .taken)
     (odd-by _ _ _ _ _ _ (s .pre .1 .0) (s .pre .1 .1) (c .before .odd .ensures) (c .if1 .taken)))
 
--- src/naming.rt:54:9
 add-i : tie.Need-add-i Inv-loop μ-loop
 add-i c = omega arith
 
--- src/naming.rt:50:5
 loop-less : tie.Need-loop-less Inv-loop μ-loop
 loop-less c = omega arith
 
--- src/naming.rt:50:5
 loop-again : tie.Need-loop-again Inv-loop μ-loop
 loop-again c =
     let s = c .before .before .before .before .before .before .before .before in (
@@ -76,7 +64,6 @@ loop-again c =
       below-more _ _ (c .before .before .before .before .loop .inv .1) (odd-by _ _ _ _ _ _ (s .pre .1 .0) (s .pre .1 .1) (c .before .odd .ensures) (c .if1 .left)),
     )
 
--- src/naming.rt:43:1
 returns-2 : tie.Need-returns-2 Inv-loop μ-loop
 unfolding notOnce
 returns-2 c =
