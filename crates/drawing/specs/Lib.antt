@@ -1,2 +1,3 @@
--- The drawer's whole answer.
+-- The drawer's whole answer; then, for its inner functions only, what is left to place.
 pub mod Answer
+pub mod Placing

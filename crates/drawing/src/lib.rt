@@ -1,4 +1,21 @@
 // The drawer: Algorithm BT-Ordered-Draw over a table of records.
+mod place;
+
+use crate::place::draw_left;
+use measure::prepare;
+use table::read;
+use table::words::left;
+ghost use mathlib.Core.Path.{_≡_};
+ghost use Prim.Native.Nat.{_*_, _≤_};
+ghost use lib.Dec.{T};
+ghost use lib.ListN.{length};
+ghost use Rattle.table.specs.Lists.{member};
+ghost use Rattle.table.specs.Table.{records, rootOf, chain as chainOf};
+ghost use Rattle.table.specs.Tree.{tree};
+ghost use Rattle.table.specs.Refusal.{fault};
+ghost use Rattle.layout.specs.Drawing.{draw as drawing};
+ghost use Rattle.measure.specs.Sized.{Sized};
+ghost use Rattle.drawing.specs.Answer.{store, planOf, drawnOf, placedIn};
 
 // The extent of a drawing.
 pub struct Plan {
@@ -20,4 +37,48 @@ impl Plan {
 pub struct Drawn {
     pub refusal: u16,
     pub plan: Plan,
+}
+
+// The plan of an accepted table that has nodes.
+fn plan_of(table: &[u8], sizes: &[u16], placements: &mut [u16], nodes: usize) -> Plan
+    requires { ⌜ fault (now table) ≡ 0 ⌝ }
+    requires { ⌜ T (member (rootOf (now table)) (chainOf (now table))) ⌝ }
+    requires { ⌜ Sized (now table) (now sizes) ⌝ }
+    requires { ⌜ 2 * records (now table) ≤ length (now placements) ⌝ }
+    requires { ⌜ nodes ≡ length (chainOf (now table)) ⌝ }
+    ensures { λ r. ⌜ (r ≡ planOf (now (table .entry))) × (now (placements .exit) ≡ store (drawing (tree (now (table .entry)))) (now (placements .entry))) ⌝ }
+{
+    let root = left(table, 0);
+    let mut roles = [0u16; 4097];
+    let mut gaps = [0u16; 4097];
+    let width = prepare(table, sizes, &mut roles, &mut gaps, root);
+    let height = draw_left(table, sizes, &roles, &gaps, placements, root, 0, 0);
+    Plan {
+        nodes: nodes as u16,
+        width: width as u16,
+        height: height as u16,
+    }
+}
+
+// Draws the tree of a table: its refusal and plan, and the placements of its nodes. All placements are kept on a refusal.
+pub fn draw(table: &[u8], placements: &mut [u16]) -> Drawn
+    ensures { λ r. ⌜ (r ≡ drawnOf (now (table .entry)) (now (placements .entry))) × (now (placements .exit) ≡ placedIn (now (table .entry)) (now (placements .entry))) ⌝ }
+{
+    let mut chain = [0u16; 4097];
+    let mut sizes = [0u16; 4097];
+    let reading = read(table, placements.len(), &mut chain, &mut sizes);
+    if reading.refusal != 0 {
+        return Drawn {
+            refusal: reading.refusal,
+            plan: Plan::EMPTY,
+        };
+    }
+    if reading.nodes == 0 {
+        return Drawn {
+            refusal: 0,
+            plan: Plan::EMPTY,
+        };
+    }
+    let plan = plan_of(table, &sizes, placements, reading.nodes);
+    Drawn { refusal: 0, plan }
 }

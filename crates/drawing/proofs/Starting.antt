@@ -1,0 +1,202 @@
+-- The two ends of a spine: the walk at its first node, a knee, where all of it is left; and where it has ended, and only the pending child is left.
+use mathlib.Core.Path.{_≡_, refl, ap, sym, subst, subst₂, _∙_}
+use mathlib.Core.Bool.{Bool, true, false}
+use mathlib.Core.Logic.{inl, inr}
+use mathlib.Core.List.{List, [], _∷_}
+use Prim.Native.Nat.{ℕ, zero, suc, _+_, _*_, _-_, _≤_, _<_, max}
+use native.Mathlib.Omega.{arith}
+use lib.Dec.{T}
+use lib.ListN.{length, getD}
+use Rattle.table.specs.Lists.{member, count}
+use Rattle.table.specs.Table.{Side, left, right, leftOf, rightOf, linkOf, chain}
+use Rattle.table.specs.Tree.{Tree, none, node, size, nodes, treeAt}
+use Rattle.table.specs.Refusal.{fault}
+use Rattle.table.proofs.Lists.{repeats-count}
+use Rattle.table.proofs.Chain.{Chained}
+use Rattle.table.proofs.Accepted.{tree-none, nodes-distinct, down, tree-unfolds}
+use Rattle.layout.specs.Layout.{Layout, blank, placed, width}
+use Rattle.layout.specs.Spine.{SpineNode, hangs, Role, knee}
+use Rattle.layout.specs.Drawing.{draw}
+use Rattle.layout.specs.Held.{facing, inwards, hungOn, heightOn, widthOn, widestOn, spineOn, lay, Frame, Fit}
+use Rattle.layout.proofs.Rows.{shape}
+use Rattle.layout.proofs.Theorem.{promise}
+use Rattle.layout.proofs.Held.{bottom, Inside, inside-less, hung-inside, rooms-law, inside-fits, hung-law, bottom-law}
+use Rattle.measure.specs.Sized.{Named}
+use Rattle.measure.specs.Forked.{sideOf}
+use Rattle.measure.specs.Prepared.{Prepared, Along, no-spine, a-spine}
+use Rattle.drawing.specs.Answer.{store}
+use Rattle.drawing.specs.declared.place.Walk.{Walk}
+use Rattle.drawing.specs.Placing.{Hanging, Hung, kept, finish, finished, Ready, handOf, spineFrom, Going, left-over, Stepped, rowBelow, remaining}
+use Rattle.drawing.proofs.Shapes.{count-node, hung-none, height-none, width-none, width-node}
+use Rattle.drawing.proofs.Onward.{finished-none}
+
+-- ---- nodes and no nodes
+
+pub named-node : (t : List ℕ) (k : ℕ) → Named t k → 0 < k → Chained t k
+named-node t k (inl e) h = absurd (omega arith)
+named-node t k (inr c) h = c
+
+some-node : (t : List ℕ) → fault t ≡ 0 → (k : ℕ) → Chained t k → 0 < size (treeAt t k)
+unfolding size
+some-node t ok k c = omega (arith, ap size (tree-unfolds t ok k c))
+
+pub hung-nothing : (t : List ℕ) (s : Side) (k e top : ℕ) (p : List ℕ) → k ≡ 0 → Hung t s k e top p top p
+unfolding store
+hung-nothing t s k e top p z = record {
+  lowest = omega (arith, ap (heightOn s) nothing, height-none s);
+  stored = sym (ap (λ (T : Tree). store (hungOn s e top T) p) nothing ∙ ap (λ (L : Layout). store L p) (hung-none s e top));
+}
+  where
+    nothing : treeAt t k ≡ none
+    nothing = ap (treeAt t) z ∙ tree-none t
+
+-- ---- code has the side as a bool
+
+-- A node's drawing has a column, where its edge is.
+pub column-hung : (t roles gaps : List ℕ) (s : Side) (k e c top : ℕ) → fault t ≡ 0 → 0 < k → Hanging t roles gaps s k e c top → Inside 65536 s e (c + 1)
+column-hung t roles gaps s k e c top ok h g = inside-less 65536 s e (omega (arith, width-node s (treeAt t k) (some-node t ok k (named-node t k (g .named) h)))) (g .columns)
+
+pub hanging-side : (t roles gaps : List ℕ) (b d : Bool) (k e c top edge : ℕ) → b ≡ d → edge ≡ inwards (sideOf b) e c → Hanging t roles gaps (sideOf b) k e c top → Hanging t roles gaps (sideOf d) k edge 0 top
+hanging-side t roles gaps b d k e c top edge q r h = subst (λ (x : Bool). Hanging t roles gaps (sideOf x) k edge 0 top) q (record {
+  named = h .named;
+  prepared = h .prepared;
+  columns = rw r (inside-less 65536 (sideOf b) _ (omega arith) (hung-inside 65536 (sideOf b) e c _ (h .columns)));
+  rows = h .rows;
+})
+
+pub hung-side : (t : List ℕ) (b d : Bool) (k e c top below edge : ℕ) (p p′ : List ℕ) → b ≡ d → edge ≡ inwards (sideOf b) e c → Hung t (sideOf d) k edge top p below p′ → Hung t (sideOf b) k (inwards (sideOf b) e c) top p below p′
+hung-side t b d k e c top below edge p p′ q r h = subst₂ (λ (x : Bool) (n : ℕ). Hung t (sideOf x) k n top p below p′) (sym q) r h
+
+-- ---- the end
+
+module _ (t roles gaps : List ℕ) (w : Walk) (ended : w .at ≡ 0) where
+  no-spine-left : spineFrom t w ≡ []
+  unfolding spineOn
+  no-spine-left = ap (spineOn (sideOf (w .mirrored))) (ap (treeAt t) ended ∙ tree-none t)
+
+  pub bottom-end : (o : Role) → rowBelow t o w ≡ w .lowest + 1 + heightOn (handOf w) (treeAt t (w .pending))
+  unfolding bottom
+  bottom-end o = ap (bottom (handOf w) o (w .lowest) (w .row) (heightOn (handOf w) (treeAt t (w .pending)))) no-spine-left ∙ omega arith
+
+  pub remaining-end : (o : Role) (p : List ℕ) → remaining t o w p ≡ store (hungOn (handOf w) (inwards (handOf w) (w .edge) 1) (w .lowest + 1) (treeAt t (w .pending))) p
+  unfolding finished finish kept lay store
+  remaining-end o p = ap (λ (ls : List SpineNode). finished (w .gap) (handOf w) (w .edge) o (w .lowest) (w .row) (treeAt t (w .pending)) ls p) no-spine-left
+
+  pub hanging-end : (o : Role) → Going t roles gaps o w → Hanging t roles gaps (handOf w) (w .pending) (w .edge) 1 (w .lowest + 1)
+  hanging-end o g = record { named = g .named-pending; prepared = g .ready .prepared; columns = g .ready .spare; rows = omega (arith, g .ready .rows, bottom-end o) }
+
+-- ---- the start
+
+-- Every subtree of an accepted table has each record once.
+once-below : (i k : ℕ) (a b : Tree) → count i (nodes (node k a b)) ≤ 1 → (count i (nodes a) ≤ 1) × (count i (nodes b) ≤ 1)
+once-below i k a b h = (omega (arith, count-node i k a b), omega (arith, count-node i k a b))
+
+module _ (t : List ℕ) (ok : fault t ≡ 0) where
+  subtree-once : (k : ℕ) → Chained t k → (i : ℕ) → count i (nodes (treeAt t k)) ≤ 1
+  subtree-once = down t ok (λ (k : ℕ). (i : ℕ) → count i (nodes (treeAt t k)) ≤ 1) (λ c. repeats-count _ .0 (nodes-distinct t ok)) step
+    where
+      step : (k : ℕ) (s : Side) → Chained t k → Chained t (linkOf t s k) → ((i : ℕ) → count i (nodes (treeAt t k)) ≤ 1) → (i : ℕ) → count i (nodes (treeAt t (linkOf t s k))) ≤ 1
+      step k left c d h i = once-below i k _ _ (rw (tree-unfolds t ok k c) at (h i)) .0
+      step k right c d h i = once-below i k _ _ (rw (tree-unfolds t ok k c) at (h i)) .1
+
+-- What is measured of a node: W of its spine, and the roles along it.
+spine-gap : {roles gaps : List ℕ} {s : Side} {k : ℕ} {a b : Tree} → Prepared roles gaps s (node k a b) → getD gaps k 0 ≡ widestOn s (node k a b)
+spine-gap (a-spine e l) = e
+
+spine-along : {roles gaps : List ℕ} {s : Side} {k : ℕ} {a b : Tree} → Prepared roles gaps s (node k a b) → Along roles gaps s knee (spineOn s (node k a b))
+spine-along (a-spine e l) = l
+
+frame : (s : Side) (e w : ℕ) → Frame s e (inwards s e w) w
+unfolding inwards
+frame left e w = refl
+frame right e w = λ h. omega arith
+
+module _ (t roles gaps : List ℕ) (ok : fault t ≡ 0) (b : Bool) (root edge top : ℕ) (g : Hanging t roles gaps (sideOf b) root edge 0 top) (node-there : 0 < root) where
+  abbrev s : Side
+  s = sideOf b
+
+  -- The walk at the first node, a knee.
+  abbrev pub start : Walk
+  start = record { at = root; row = top; lowest = top; pending = 0; right = b; edge = edge; gap = getD gaps root 0; mirrored = b }
+
+  chained : Chained t root
+  chained = named-node t root (g .named) node-there
+
+  tree : treeAt t root ≡ node root (treeAt t (leftOf t root)) (treeAt t (rightOf t root))
+  tree = tree-unfolds t ok root chained
+
+  some : 0 < size (treeAt t root)
+  some = some-node t ok root chained
+
+  gap-law : getD gaps root 0 ≡ widestOn s (treeAt t root)
+  gap-law = rw tree (spine-gap (rw tree at (g .prepared)))
+
+  inside : Inside 65536 s edge (widthOn s (treeAt t root))
+  inside = inside-less 65536 s edge (omega arith) (g .columns)
+
+  pub going-start : Going t roles gaps knee start
+  unfolding nodes count
+  going-start = record {
+    named = g .named;
+    named-pending = inl refl;
+    once = λ i. rw (tree-none t) (omega (arith, subtree-once t ok root chained i));
+    ready = rw (tree-none t) (record {
+      prepared = no-spine;
+      along = rw tree (spine-along (rw tree at (g .prepared)));
+      spare = inside-less 65536 s edge (omega (arith, width-none s, width-node s (treeAt t root) some)) inside;
+      rooms = rw gap-law (rooms-law 65536 s edge _ top (treeAt t root) (frame s edge _) inside);
+      rows = rw (height-none s) (omega (arith, bottom-law s top (treeAt t root) some, g .rows));
+    });
+  }
+
+  pub remaining-start : (p : List ℕ) → remaining t knee start p ≡ store (hungOn s edge top (treeAt t root)) p
+  unfolding widthOn
+  remaining-start p = rw (tree-none t) (finished-none (getD gaps root 0) s edge knee top top _ p ∙ ap (λ (L : Layout). store L p) (sym (hung-law s edge _ top (treeAt t root) (rw gap-law (frame s edge _)) (inside-fits 65536 s edge (draw (facing s (treeAt t root))) inside))))
+
+  pub bottom-start : rowBelow t knee start ≡ top + heightOn s (treeAt t root)
+  bottom-start = rw (tree-none t, height-none s) (bottom-law s top (treeAt t root) some)
+
+  pub hung-start : (p p′ : List ℕ) (below : ℕ) → (below ≡ rowBelow t knee start) × (p′ ≡ remaining t knee start p) → Hung t s root edge top p below p′
+  hung-start p p′ below e = record { lowest = e .0 ∙ bottom-start; stored = e .1 ∙ remaining-start p }
+
+-- ---- on the way
+
+pub record Walked (t roles gaps : List ℕ) (p₀ : List ℕ) (w₀ : Walk) (p : List ℕ) (w : Walk) : Type 0 where
+  pub role : Role
+  pub going : Going t roles gaps role w
+  pub same : remaining t role w p ≡ remaining t knee w₀ p₀
+  pub as-deep : rowBelow t role w ≡ rowBelow t knee w₀
+  pub fewer : left-over t w ≤ size (treeAt t (w₀ .at))
+  pub one-less : size (treeAt t (w .pending)) < size (treeAt t (w₀ .at))
+  pub kept : length p ≡ length p₀
+
+module _ (t roles gaps : List ℕ) where
+  pub walked-start : fault t ≡ 0 → (p : List ℕ) (w : Walk) → Going t roles gaps knee w → 0 < w .at → w .pending ≡ 0 → Walked t roles gaps p w p w
+  unfolding size
+  walked-start ok p w g h z =
+      let none-there : size (treeAt t (w .pending)) ≡ 0 = ap (λ (k : ℕ). size (treeAt t k)) z ∙ ap size (tree-none t) in
+      record {
+        role = knee;
+        going = g;
+        same = refl;
+        as-deep = refl;
+        fewer = omega arith;
+        one-less = omega (arith, some-node t ok (w .at) (named-node t (w .at) (g .named) h));
+        kept = refl;
+      }
+
+  pub walked-on : (p₀ : List ℕ) (w₀ : Walk) (p : List ℕ) (w : Walk) (p′ : List ℕ) (w′ : Walk) → (g : Walked t roles gaps p₀ w₀ p w) → Stepped t roles gaps (g .role) w p w′ p′ → length p′ ≡ length p → Walked t roles gaps p₀ w₀ p′ w′
+  walked-on p₀ w₀ p w p′ w′ g d e = record {
+    role = d .role;
+    going = d .going;
+    same = d .same ∙ g .same;
+    as-deep = d .as-deep ∙ g .as-deep;
+    fewer = omega (arith, g .fewer, d .fewer);
+    one-less = omega (arith, g .fewer, d .fewer);
+    kept = e ∙ g .kept;
+  }
+
+  pub walked-end : (p₀ : List ℕ) (w₀ : Walk) (p : List ℕ) (w : Walk) (p′ : List ℕ) (below : ℕ) → (g : Walked t roles gaps p₀ w₀ p w) → w .at ≡ 0 →
+      Hung t (handOf w) (w .pending) (inwards (handOf w) (w .edge) 1) (w .lowest + 1) p below p′ → (below ≡ rowBelow t knee w₀) × (p′ ≡ remaining t knee w₀ p₀)
+  walked-end p₀ w₀ p w p′ below g z d =
+      (d .lowest ∙ (sym (bottom-end t roles gaps w z (g .role)) ∙ g .as-deep), d .stored ∙ (sym (remaining-end t roles gaps w z (g .role) p) ∙ g .same))

@@ -1,0 +1,51 @@
+-- `draw` meets its contract: the drawer's whole answer, for all bytes and placements.
+use mathlib.Core.Path.{sym, _∙_}
+use borrow.Author.Needs.{needs}
+use Rattle.drawing.proofs.Whole.{sizes-listed, read-accepted, some-root, nothing-drawn, refusal-drawn, plan-answered}
+use Rattle.drawing.proofs.draw.Statement.{statement}
+use Rattle.drawing.proofs.draw.Tie as tie
+
+slice-aggregate-read : tie.Need-slice-aggregate-read
+slice-aggregate-read c = search needs
+
+slice-aggregate-read-2 : tie.Need-slice-aggregate-read-2
+slice-aggregate-read-2 c = search needs
+
+read-requires : tie.Need-read-requires
+read-requires c κs = search needs
+
+returns : tie.Need-returns
+returns c = refusal-drawn _ _ _ (c .before .before .before .before .read .ensures .refusal) (c .if1 .taken)
+
+returns-2 : tie.Need-returns-2
+returns-2 c = nothing-drawn _ _ (sym (c .before .before .before .before .before .before .read .ensures .refusal) ∙ c .before .before .if1 .left) (read-accepted _ _ _ _ _ (c .before .before .before .before .before .before .read .ensures) (c .before .before .if1 .left) .0) (sym (c .before .before .before .before .before .before .read .ensures .accepted (c .before .before .if1 .left) .nodes) ∙ c .if2 .taken)
+
+slice-aggregate-plan-of : tie.Need-slice-aggregate-plan-of
+slice-aggregate-plan-of c = search needs
+
+plan-of-requires : tie.Need-plan-of-requires
+plan-of-requires c κs =
+    let e = c .before .before .before .before .if1 .left in
+    let ok = read-accepted _ _ _ _ _ (c .before .before .before .before .before .before .before .before .read .ensures) e in
+    let l = c .before .before .before .before .before .before .before .before .read .ensures .accepted e in
+    (ok .0, (some-root _ (ok .0) _ (l .nodes) (c .before .before .if2 .left), (sizes-listed _ _ _ _ l (c .before .before .before .before .before .before .before .before .read .kept .1 .1 .1 .0), (ok .1, l .nodes))))
+
+same-length : tie.Need-same-length
+same-length c = search needs
+
+returns-3 : tie.Need-returns-3
+returns-3 c = plan-answered _ _ _ _ (sym (c .before .before .before .before .before .before .before .before .before .before .before .read .ensures .refusal) ∙ c .before .before .before .before .before .before .before .if1 .left) (c .before .before .plan-of .ensures)
+
+pub draw-spec : {M : Type 1} → statement M
+draw-spec =
+    tie.close
+    (tie.spec
+    slice-aggregate-read
+    slice-aggregate-read-2
+    read-requires
+    returns
+    returns-2
+    slice-aggregate-plan-of
+    plan-of-requires
+    same-length
+    returns-3)

@@ -1,0 +1,65 @@
+-- `at_switch` meets its contract: step 6 of a walk.
+use mathlib.Core.Path.{_∙_}
+use Prim.Native.Nat.{ℕ, _+_}
+use borrow.Author.Needs.{needs}
+use native.Mathlib.Omega.{arith}
+use Rattle.drawing.proofs.Walking.{entry-within, given-kept, hanging-as, column-switch, gap-at-switch, rows-at-switch, hanging-switch, hanging-pending, left-switch}
+use Rattle.drawing.proofs.place.at_switch.Reads as reads
+use Rattle.drawing.proofs.place.+at_knee+at_ordinary+at_switch+draw_hung+draw_left+draw_right+draw_spine+step.Lts-at_switch as lts
+use Rattle.drawing.proofs.place.+at_knee+at_ordinary+at_switch+draw_hung+draw_left+draw_right+draw_spine+step.Proof.Measures.{at-switch-claims, at-switch-at}
+
+module _ (t : ℕ) where
+  inwards-requires : lts.Need-inwards-requires (at-switch-claims t) (at-switch-at t) reads.Post
+  inwards-requires c κs = column-switch _ _ _ _ _ _ _ (c .before .before .before .before .before .before .pre .1 .1 .1) (c .before .before .before .before .before .before .pre .1 .1 .0) 1 (omega arith)
+
+  set-point-requires : lts.Need-set-point-requires (at-switch-claims t) (at-switch-at t) reads.Post
+  set-point-requires c κs = (entry-within _ _ _ _ _ (c .before .before .before .before .before .before .before .pre .1 .0) _ (c .before .before .before .before .before .before .before .pre .1 .1 .0 .named), (c .inwards .ensures .1, omega (arith, rows-at-switch _ _ _ _ _ _ _ (c .before .before .before .before .before .before .before .pre .1 .1 .1) (c .before .before .before .before .before .before .before .pre .1 .1 .0))))
+
+  add-row : lts.Need-add-row (at-switch-claims t) (at-switch-at t) reads.Post
+  add-row c = omega (arith, rows-at-switch _ _ _ _ _ _ _ (c .before .before .before .before .before .before .before .before .before .before .before .pre .1 .1 .1) (c .before .before .before .before .before .before .before .before .before .before .before .pre .1 .1 .0))
+
+  draw-hung-requires : lts.Need-draw-hung-requires (at-switch-claims t) (at-switch-at t) reads.Post
+  draw-hung-requires c κs =
+      (omega (arith, c .before .before .before .before .before .before .before .before .before .before .before .before .pre .0, c .before .before .before .before .before .before .before .before .before .before .before .before .pre .1 .1 .1 .sizes), (given-kept _ _ _ _ _ _ (c .before .before .before .before .set-point .kept .0) (c .before .before .before .before .before .before .before .before .before .before .before .before .pre .1 .0), hanging-switch _ _ _ _ _ _ _ (c .before .before .before .before .before .before .before .before .before .before .before .before .pre .1 .1 .1) (c .before .before .before .before .before .before .before .before .before .before .before .before .pre .1 .1 .0)))
+
+  draw-hung-requires-2 : lts.Need-draw-hung-requires-2 (at-switch-claims t) (at-switch-at t) reads.Post
+  draw-hung-requires-2 c κs = (
+    omega (arith, c .before .before .before .before .before .before .before .before .before .before .before .before .before .before .before .before .pre .0, c .before .before .before .before .before .before .before .before .before .before .before .before .before .before .before .before .pre .1 .1 .1 .sizes),
+    (
+      given-kept _ _ _ _ _ _ (c .before .before .before .draw-hung .kept .1 .1 .1 .1 .0 ∙ c .before .before .before .before .before .before .before .before .set-point .kept .0) (c .before .before .before .before .before .before .before .before .before .before .before .before .before .before .before .before .pre .1 .0),
+      hanging-as _ _ _ _ _ _ _ _ _ (c .before .before .before .draw-hung .ensures .lowest) (hanging-pending _ _ _ _ _ _ _ (c .before .before .before .before .before .before .before .before .before .before .before .before .before .before .before .before .pre .1 .1 .1) (c .before .before .before .before .before .before .before .before .before .before .before .before .before .before .before .before .pre .1 .1 .0)),
+    ),
+  )
+
+  sub-lowest : lts.Need-sub-lowest (at-switch-claims t) (at-switch-at t) reads.Post
+  sub-lowest c = omega (arith, c .before .before .draw-hung2 .ensures .lowest, c .before .before .before .before .before .before .draw-hung .ensures .lowest)
+
+  add-inwards : lts.Need-add-inwards (at-switch-claims t) (at-switch-at t) reads.Post
+  add-inwards c = omega (arith, gap-at-switch _ _ _ _ _ _ _ (c .before .before .before .before .before .before .before .before .before .before .before .before .before .before .before .before .before .before .before .before .pre .1 .1 .1) (c .before .before .before .before .before .before .before .before .before .before .before .before .before .before .before .before .before .before .before .before .pre .1 .1 .0))
+
+  inwards-requires-2 : lts.Need-inwards-requires-2 (at-switch-claims t) (at-switch-at t) reads.Post
+  inwards-requires-2 c κs = column-switch _ _ _ _ _ _ _ (c .before .before .before .before .before .before .before .before .before .before .before .before .before .before .before .before .before .before .before .before .pre .1 .1 .1) (c .before .before .before .before .before .before .before .before .before .before .before .before .before .before .before .before .before .before .before .before .pre .1 .1 .0) (c .before .before .before .before .before .before .before .before .before .before .before .before .before .before .before .before .before .before .before .before .args .w .gap + 2) (omega arith)
+
+  same-length : lts.Need-same-length (at-switch-claims t) (at-switch-at t) reads.Post
+  same-length c = search needs
+
+  returns : lts.Need-returns (at-switch-claims t) (at-switch-at t) reads.Post
+  returns c =
+      left-switch _ _ _ _ _ _ _ (c .before .before .before .before .before .before .before .before .before .before .before .before .before .before .before .before .before .before .before .before .before .before .pre .1 .1 .1) _ _ _ _ _ _ _ _ (c .before .before .before .before .before .before .before .before .before .before .before .before .before .before .before .inwards .ensures .0) (c .before .before .before .before .before .before .before .before .before .before .before .before .before .before .set-point .ensures) (c .before .before .before .before .before .before .before .before .before .draw-hung .ensures) (c .before .before .before .before .before .draw-hung2 .ensures) (c .before .inwards2 .ensures .0) (c .before .before .before .before .before .before .before .before .before .before .before .before .before .before .before .before .before .before .before .before .before .before .pre .1 .1 .0)
+
+pub at-switch-closed : {M : Type 1} (t : ℕ) → lts.Closed (at-switch-claims t) (at-switch-at t) reads.Post M
+at-switch-closed t =
+    lts.spec
+    (at-switch-claims t)
+    (at-switch-at t)
+    reads.Post
+    (inwards-requires t)
+    (set-point-requires t)
+    (add-row t)
+    (draw-hung-requires t)
+    (draw-hung-requires-2 t)
+    (sub-lowest t)
+    (add-inwards t)
+    (inwards-requires-2 t)
+    (same-length t)
+    (returns t)

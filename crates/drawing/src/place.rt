@@ -1,0 +1,325 @@
+// Placing: the points of a drawing, in the columns and rows of the whole plan. Roles and gaps are read; placing chooses none.
+use measure::Fork;
+use measure::fork_at;
+use measure::roles::Role;
+use measure::roles::role_at;
+ghost use mathlib.Core.Path.{_≡_};
+ghost use Prim.Native.Nat.{_+_, _*_, _<_, max};
+ghost use lib.ListN.{length, getD};
+ghost use Rattle.table.specs.Table.{left, right};
+ghost use Rattle.layout.specs.Spine.{Role as LayoutRole, knee, ordinary, switch};
+ghost use Rattle.layout.specs.Held.{inwards as inwardsOf, far};
+ghost use Rattle.layout.proofs.Held.{Inside};
+ghost use Rattle.measure.specs.Forked.{sideOf, Forked};
+ghost use Rattle.measure.specs.Roles.{roleOf};
+ghost use Rattle.drawing.specs.Placing.{isKnee, isSwitch, point, handOf, walkTo, Given, Hanging, Hung, Going, Stepped, remaining, rowBelow};
+
+// A walk along the spine of a drawing: the next node and its row, the lowest row used so far, the pending child, 0 for none; the hand that the node
+// is on, and its edge; W of the spine, and whether its drawing is on the right side.
+pub struct Walk {
+    pub at: usize,
+    pub row: usize,
+    pub lowest: usize,
+    pub pending: usize,
+    pub right: bool,
+    pub edge: usize,
+    pub gap: usize,
+    pub mirrored: bool,
+}
+
+fn greater(a: usize, b: usize) -> usize
+    ensures { λ r. ⌜ r ≡ max a b ⌝ }
+{
+    if a < b { b } else { a }
+}
+
+// k columns inwards from the edge of a hand.
+fn inwards(right: bool, edge: usize, k: usize) -> usize
+    requires { ⌜ Inside 65536 (sideOf right) edge (k + 1) ⌝ }
+    ensures { λ r. ⌜ (r ≡ inwardsOf (sideOf right) edge k) × (r < 65536) ⌝ }
+{
+    if right { edge - k } else { edge + k }
+}
+
+// Whether a hung child is on the far side of a hand.
+fn is_far(right: bool, hung_right: bool) -> bool
+    ensures { λ r. ⌜ r ≡ far (sideOf right) (sideOf «hung_right») ⌝ }
+{
+    if right { !hung_right } else { hung_right }
+}
+
+fn is_knee(role: Role) -> bool
+    ensures { λ r. ⌜ r ≡ isKnee (roleOf role) ⌝ }
+{
+    match role {
+        Role::LeftKnee => true,
+        Role::OrdinaryLeft => false,
+        Role::SwitchRight => false,
+        Role::RightKnee => true,
+        Role::OrdinaryRight => false,
+        Role::SwitchLeft => false,
+    }
+}
+
+fn is_switch(role: Role) -> bool
+    ensures { λ r. ⌜ r ≡ isSwitch (roleOf role) ⌝ }
+{
+    match role {
+        Role::LeftKnee => false,
+        Role::OrdinaryLeft => false,
+        Role::SwitchRight => true,
+        Role::RightKnee => false,
+        Role::OrdinaryRight => false,
+        Role::SwitchLeft => true,
+    }
+}
+
+fn set_point(placements: &mut [u16], k: usize, column: usize, row: usize)
+    requires { ⌜ 2 * k + 1 < length (now placements) ⌝ }
+    requires { ⌜ (column < 65536) × (row < 65536) ⌝ }
+    ensures { λ _. ⌜ now (placements .exit) ≡ point k column row (now (placements .entry)) ⌝ }
+{
+    placements[2 * k] = column as u16;
+    placements[2 * k + 1] = row as u16;
+}
+
+// The walk at the next node, on the same hand.
+fn onward(w: Walk, at: usize, row: usize, lowest: usize, pending: usize) -> Walk
+    ensures { λ r. ⌜ r ≡ walkTo w at row lowest pending (w .right) (w .edge) ⌝ }
+{
+    Walk {
+        at,
+        row,
+        lowest,
+        pending,
+        right: w.right,
+        edge: w.edge,
+        gap: w.gap,
+        mirrored: w.mirrored,
+    }
+}
+
+// Step 4: a child hung on the far side is drawn below all so far, and the next node is below it; one on the near side is pending.
+fn at_knee(
+    table: &[u8],
+    sizes: &[u16],
+    roles: &[u16],
+    gaps: &[u16],
+    placements: &mut [u16],
+    fork: Fork,
+    w: Walk,
+) -> Walk
+    requires { ⌜ Given (now table) (now sizes) (now roles) (now gaps) (now placements) ⌝ }
+    requires { ⌜ Going (now table) (now roles) (now gaps) knee w ⌝ }
+    requires { ⌜ Forked (now table) (sideOf (w .mirrored)) (w .at) (fork .spine) (fork .hung) (sideOf (fork .«hung_right»)) ⌝ }
+    ensures { λ r. ⌜ Stepped (now (table .entry)) (now (roles .entry)) (now (gaps .entry)) knee w (now (placements .entry)) r (now (placements .exit)) ⌝ }
+{
+    set_point(placements, w.at, w.edge, w.row);
+    let lowest = greater(w.lowest, w.row);
+    let row = lowest + 1;
+    if is_far(w.right, fork.hung_right) {
+        let below = draw_hung(table, sizes, roles, gaps, placements, w, fork.hung, 1, row);
+        return onward(w, fork.spine, below, below - 1, 0);
+    }
+    onward(w, fork.spine, row, lowest, fork.hung)
+}
+
+// Step 5: the next node is on the bottom row of the hung drawing, or one row lower.
+fn at_ordinary(
+    table: &[u8],
+    sizes: &[u16],
+    roles: &[u16],
+    gaps: &[u16],
+    placements: &mut [u16],
+    fork: Fork,
+    w: Walk,
+) -> Walk
+    requires { ⌜ Given (now table) (now sizes) (now roles) (now gaps) (now placements) ⌝ }
+    requires { ⌜ Going (now table) (now roles) (now gaps) ordinary w ⌝ }
+    requires { ⌜ Forked (now table) (sideOf (w .mirrored)) (w .at) (fork .spine) (fork .hung) (sideOf (fork .«hung_right»)) ⌝ }
+    ensures { λ r. ⌜ Stepped (now (table .entry)) (now (roles .entry)) (now (gaps .entry)) ordinary w (now (placements .entry)) r (now (placements .exit)) ⌝ }
+{
+    set_point(placements, w.at, inwards(w.right, w.edge, 1), w.row);
+    let row = w.row + 1;
+    let below = draw_hung(table, sizes, roles, gaps, placements, w, fork.hung, 2, row);
+    let lowest = below - 1;
+    onward(w, fork.spine, greater(row, lowest), lowest, w.pending)
+}
+
+// Step 6: what is pending goes under the hung drawing, and the walk goes over to the other hand.
+fn at_switch(
+    table: &[u8],
+    sizes: &[u16],
+    roles: &[u16],
+    gaps: &[u16],
+    placements: &mut [u16],
+    fork: Fork,
+    w: Walk,
+) -> Walk
+    requires { ⌜ Given (now table) (now sizes) (now roles) (now gaps) (now placements) ⌝ }
+    requires { ⌜ Going (now table) (now roles) (now gaps) switch w ⌝ }
+    requires { ⌜ Forked (now table) (sideOf (w .mirrored)) (w .at) (fork .spine) (fork .hung) (sideOf (fork .«hung_right»)) ⌝ }
+    ensures { λ r. ⌜ Stepped (now (table .entry)) (now (roles .entry)) (now (gaps .entry)) switch w (now (placements .entry)) r (now (placements .exit)) ⌝ }
+{
+    set_point(placements, w.at, inwards(w.right, w.edge, 1), w.row);
+    let row = w.row + 1;
+    let under = draw_hung(table, sizes, roles, gaps, placements, w, fork.hung, 1, row);
+    let below = draw_hung(
+        table,
+        sizes,
+        roles,
+        gaps,
+        placements,
+        w,
+        w.pending,
+        1,
+        under,
+    );
+    let lowest = below - 1;
+    let edge = inwards(w.right, w.edge, w.gap + 2);
+    Walk {
+        at: fork.spine,
+        row,
+        lowest,
+        pending: 0,
+        right: !w.right,
+        edge,
+        gap: w.gap,
+        mirrored: w.mirrored,
+    }
+}
+
+// One node of a spine: it and what hangs from it, or was pending, by its role.
+fn step(
+    table: &[u8],
+    sizes: &[u16],
+    roles: &[u16],
+    gaps: &[u16],
+    placements: &mut [u16],
+    w: Walk,
+) -> Walk
+    requires { ⌜ Given (now table) (now sizes) (now roles) (now gaps) (now placements) ⌝ }
+    requires { ⌜ ((o : LayoutRole) × Going (now table) (now roles) (now gaps) o w) ⌝ }
+    requires { ⌜ 0 < w .at ⌝ }
+    ensures { λ r. ⌜ ((o : LayoutRole) → Going (now (table .entry)) (now (roles .entry)) (now (gaps .entry)) o w → Stepped (now (table .entry)) (now (roles .entry)) (now (gaps .entry)) o w (now (placements .entry)) r (now (placements .exit))) ⌝ }
+{
+    let fork = fork_at(table, sizes, w.at, w.mirrored);
+    let role = role_at(roles, w.at);
+    if is_knee(role) {
+        return at_knee(table, sizes, roles, gaps, placements, fork, w);
+    }
+    if is_switch(role) {
+        return at_switch(table, sizes, roles, gaps, placements, fork, w);
+    }
+    at_ordinary(table, sizes, roles, gaps, placements, fork, w)
+}
+
+// From the first node to the end of a spine. Step 8: what is still pending goes below all. Answers the first row below the drawing.
+fn draw_spine(
+    table: &[u8],
+    sizes: &[u16],
+    roles: &[u16],
+    gaps: &[u16],
+    placements: &mut [u16],
+    start: Walk,
+) -> usize
+    requires { ⌜ Given (now table) (now sizes) (now roles) (now gaps) (now placements) ⌝ }
+    requires { ⌜ Going (now table) (now roles) (now gaps) knee start ⌝ }
+    requires { ⌜ 0 < start .at ⌝ }
+    requires { ⌜ start .pending ≡ 0 ⌝ }
+    ensures { λ r. ⌜ (r ≡ rowBelow (now (table .entry)) knee start) × (now (placements .exit) ≡ remaining (now (table .entry)) knee start (now (placements .entry))) ⌝ }
+{
+    let mut w = start;
+    while w.at != 0 {
+        w = step(table, sizes, roles, gaps, placements, w);
+    }
+    let top = w.lowest + 1;
+    draw_hung(table, sizes, roles, gaps, placements, w, w.pending, 1, top)
+}
+
+// A drawing on the left side, by these steps. Answers the first row below it.
+pub fn draw_left(
+    table: &[u8],
+    sizes: &[u16],
+    roles: &[u16],
+    gaps: &[u16],
+    placements: &mut [u16],
+    root: usize,
+    edge: usize,
+    top: usize,
+) -> usize
+    requires { ⌜ Given (now table) (now sizes) (now roles) (now gaps) (now placements) ⌝ }
+    requires { ⌜ Hanging (now table) (now roles) (now gaps) left root edge 0 top ⌝ }
+    requires { ⌜ 0 < root ⌝ }
+    ensures { λ r. ⌜ Hung (now (table .entry)) left root edge top (now (placements .entry)) r (now (placements .exit)) ⌝ }
+{
+    let gap = gaps[root] as usize;
+    let start = Walk {
+        at: root,
+        row: top,
+        lowest: top,
+        pending: 0,
+        right: false,
+        edge,
+        gap,
+        mirrored: false,
+    };
+    draw_spine(table, sizes, roles, gaps, placements, start)
+}
+
+// A drawing on the right side: the mirror image, flipped left to right.
+fn draw_right(
+    table: &[u8],
+    sizes: &[u16],
+    roles: &[u16],
+    gaps: &[u16],
+    placements: &mut [u16],
+    root: usize,
+    edge: usize,
+    top: usize,
+) -> usize
+    requires { ⌜ Given (now table) (now sizes) (now roles) (now gaps) (now placements) ⌝ }
+    requires { ⌜ Hanging (now table) (now roles) (now gaps) right root edge 0 top ⌝ }
+    requires { ⌜ 0 < root ⌝ }
+    ensures { λ r. ⌜ Hung (now (table .entry)) right root edge top (now (placements .entry)) r (now (placements .exit)) ⌝ }
+{
+    let gap = gaps[root] as usize;
+    let start = Walk {
+        at: root,
+        row: top,
+        lowest: top,
+        pending: 0,
+        right: true,
+        edge,
+        gap,
+        mirrored: true,
+    };
+    draw_spine(table, sizes, roles, gaps, placements, start)
+}
+
+// A subtree, 0 for none, on the side of the walk's hand: its edge is at that hand's column, its top at the row. Answers the first row below it.
+fn draw_hung(
+    table: &[u8],
+    sizes: &[u16],
+    roles: &[u16],
+    gaps: &[u16],
+    placements: &mut [u16],
+    w: Walk,
+    child: usize,
+    column: usize,
+    top: usize,
+) -> usize
+    requires { ⌜ Given (now table) (now sizes) (now roles) (now gaps) (now placements) ⌝ }
+    requires { ⌜ Hanging (now table) (now roles) (now gaps) (handOf w) child (w .edge) column top ⌝ }
+    ensures { λ r. ⌜ Hung (now (table .entry)) (handOf w) child (inwardsOf (handOf w) (w .edge) column) top (now (placements .entry)) r (now (placements .exit)) ⌝ }
+{
+    if child == 0 {
+        return top;
+    }
+    let edge = inwards(w.right, w.edge, column);
+    if w.right {
+        draw_right(table, sizes, roles, gaps, placements, child, edge, top)
+    } else {
+        draw_left(table, sizes, roles, gaps, placements, child, edge, top)
+    }
+}
