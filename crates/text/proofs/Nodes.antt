@@ -1,7 +1,7 @@
 -- The lines of the nodes, written one behind the other along the chain. Rests on Puts and on the laws of an accepted table.
 use mathlib.Core.Path.{_≡_, refl, sym, ap, _∙_}
 use mathlib.Core.Logic.{inl, inr}
-use mathlib.Core.List.{List, [], _∷_, _++_}
+use mathlib.Core.List.{List, [], _∷_}
 use Prim.Native.Nat.{ℕ, zero, suc, _+_, _-_, _*_, _≤_, _<_}
 use native.Mathlib.Numerals.{sub-one}
 use native.Mathlib.Omega.{arith}
@@ -9,9 +9,9 @@ use lib.Dec.{T}
 use lib.ListN.{length, getD}
 use Rattle.table.specs.Lists.{member}
 use Rattle.table.specs.Table.{records, nextOf, tagOf, follow, chain}
-use Rattle.table.specs.Refusal.{refusal, fault}
+use Rattle.table.specs.Refusal.{refusal}
 use Rattle.table.proofs.Lists.{member-cons}
-use Rattle.table.proofs.Accepted.{refusal-none, records-bounds, chain-within, chain-length}
+use Rattle.table.proofs.Accepted.{refusal-none, chain-within}
 use Rattle.text.specs.Text.{decimal, fields, nodeLine, nodeLines}
 use Rattle.text.specs.Put.{Put}
 use Rattle.text.proofs.Puts.{put-then, put-length}

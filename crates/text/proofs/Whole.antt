@@ -1,15 +1,17 @@
 -- The whole text at the start of a buffer, by the drawer's answer. Rests on the laws of that answer.
 use mathlib.Core.Path.{_≡_, refl, sym, ap, _∙_}
-use mathlib.Core.Bool.{true, false}
+use mathlib.Core.Logic.{dite}
 use mathlib.Core.List.{List, [], _++_}
 use Prim.Native.Nat.{ℕ, _≤_, _<_}
 use native.Mathlib.Nat.{zero-add}
+use native.Mathlib.Decide.{ℕ-discrete}
 use native.Mathlib.Omega.{arith}
-use lib.ListN.{length, drop}
+use lib.ListN.{length, drop, length-replicate}
 use lib.Seq.{sets-eq}
 use borrow.Author.Tests.{lt-ltb, le-ltb, eq-eqb, ne-eqb}
 use Rattle.table.specs.Table.{chain}
-use Rattle.table.specs.Refusal.{refusal}
+use Rattle.table.specs.Refusal.{refusal, fault}
+use Rattle.table.proofs.Accepted.{refusal-none, records-bounds}
 use Rattle.drawing.specs.declared.Drawn.{Drawn}
 use Rattle.drawing.specs.Answer.{planOf, drawnOf, placedIn}
 use Rattle.drawing.proofs.Answered.{accepted, drawn-refusal}
@@ -44,3 +46,11 @@ module _ (n : ℕ) (t : List ℕ) {d : Drawn} (room : 98328 ≤ n) (drawn : d �
   pub all-nodes : d .refusal ≡ 0 → d .plan .nodes ≡ length (chain t)
   unfolding planOf
   all-nodes e = ap (λ (x : Drawn). x .plan .nodes) (drawn ∙ accepted t lent (not-refused e) .drawn)
+
+-- The placements lent are enough: the text never says `refused 6`.
+pub enough : (t : List ℕ) → refusal t (length lent) ≡ fault t
+unfolding refusal
+enough t =
+    dite (ℕ-discrete (fault t) 0)
+    (λ e. refusal-none t (length lent) .1 (e, omega (arith, records-bounds t e, length-replicate {A = ℕ} 8194 0)) ∙ sym e)
+    (λ e. rw (ne-eqb (fault t) 0 e))

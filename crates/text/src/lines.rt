@@ -34,13 +34,9 @@ fn put_node(table: &[u8], placements: &[u16], k: usize, out: &mut [u8], at: usiz
     ensures { λ r. ⌜ r ≤ at + 24 ⌝ }
 {
     let end = put_decimal(k as u16, out, at);
-    put_three(
-        placements[2 * k],
-        placements[2 * k + 1],
-        tag(table, k) as u16,
-        out,
-        end,
-    )
+    let column = placements[2 * k];
+    let row = placements[2 * k + 1];
+    put_three(column, row, tag(table, k) as u16, out, end)
 }
 
 // The lines of the nodes, in chain order.

@@ -1,7 +1,7 @@
 -- `text::fields::put_word` meets its contract. Assumes nothing.
 use Prim.Native.Nat.{_+_, _-_, _≤_}
 use native.Mathlib.Omega.{arith}
-use lib.ListN.{length, take, length-set}
+use lib.ListN.{length, take}
 use Rattle.text.specs.Put.{Put}
 use Rattle.text.proofs.Puts.{put-start, put-next, put-end, put-length}
 use Rattle.text.proofs.fields.put_word.Statement.{statement}

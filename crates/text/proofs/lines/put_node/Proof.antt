@@ -12,26 +12,26 @@ cast-put-decimal c = search needs
 put-decimal-requires : tie.Need-put-decimal-requires
 put-decimal-requires c κs = let s = c .before .before .before .before in omega (arith, length-short (s .args .k) (s .pre .0 .1), s .pre .1 .1)
 
-mul-put-three : tie.Need-mul-put-three
-mul-put-three c = search needs
+mul-column : tie.Need-mul-column
+mul-column c = search needs
 
-mul-put-three-2 : tie.Need-mul-put-three-2
-mul-put-three-2 c = search needs
+mul-column-2 : tie.Need-mul-column-2
+mul-column-2 c = search needs
 
-shared-slice-read-put-three : tie.Need-shared-slice-read-put-three
-shared-slice-read-put-three c = search needs
+shared-slice-read-column : tie.Need-shared-slice-read-column
+shared-slice-read-column c = search needs
 
-mul-put-three-3 : tie.Need-mul-put-three-3
-mul-put-three-3 c = search needs
+mul-row : tie.Need-mul-row
+mul-row c = search needs
 
-add-put-three : tie.Need-add-put-three
-add-put-three c = search needs
+add-row : tie.Need-add-row
+add-row c = search needs
 
-mul-put-three-4 : tie.Need-mul-put-three-4
-mul-put-three-4 c = search needs
+mul-row-2 : tie.Need-mul-row-2
+mul-row-2 c = search needs
 
-shared-slice-read-put-three-2 : tie.Need-shared-slice-read-put-three-2
-shared-slice-read-put-three-2 c = search needs
+shared-slice-read-row : tie.Need-shared-slice-read-row
+shared-slice-read-row c = search needs
 
 tag-requires : tie.Need-tag-requires
 tag-requires c κs = search needs
@@ -64,13 +64,13 @@ put-node-spec =
     (tie.spec
     cast-put-decimal
     put-decimal-requires
-    mul-put-three
-    mul-put-three-2
-    shared-slice-read-put-three
-    mul-put-three-3
-    add-put-three
-    mul-put-three-4
-    shared-slice-read-put-three-2
+    mul-column
+    mul-column-2
+    shared-slice-read-column
+    mul-row
+    add-row
+    mul-row-2
+    shared-slice-read-row
     tag-requires
     cast-put-three
     put-three-requires

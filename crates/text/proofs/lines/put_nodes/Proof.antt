@@ -1,5 +1,4 @@
 -- `text::lines::put_nodes` meets its contract: what is left of the chain is written behind what was written. Assumes nothing.
-use Prim.Native.Nat.{_<_}
 use native.Mathlib.Omega.{arith}
 use Rattle.table.proofs.Accepted.{refusal-none, records-bounds}
 use Rattle.text.proofs.Nodes.{Going, going-start, going-here, going-next, going-end}

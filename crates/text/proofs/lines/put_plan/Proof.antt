@@ -1,6 +1,5 @@
 -- `text::lines::put_plan` meets its contract. Assumes nothing.
 use native.Mathlib.Omega.{arith}
-use lib.ListN.{length}
 use borrow.Author.Needs.{needs}
 use Rattle.table.proofs.Accepted.{refusal-none, records-bounds, chain-length}
 use Rattle.text.specs.Text.{planLine}
