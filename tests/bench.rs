@@ -39,7 +39,7 @@ fn main() {
     let (plan, reference, folder) = (&args[1], &args[2], &args[3]);
     println!("least microseconds: ours, the Rust reference, and the ratio");
     let mut theirs = Reference::new();
-    let time = Duration::from_millis(400);
+    let time = Duration::from_millis(800);
     for n in [64, 512, 4096] {
         for shape in SHAPES {
             let table = timed_table(shape, n);
@@ -60,7 +60,7 @@ fn main() {
             line += &row("check", t);
             let file = format!("{folder}/{n}-{}.table", shape.replace(' ', "-"));
             std::fs::write(&file, &table).unwrap();
-            let t = two(|| run(plan, &file), || run(reference, &file), 300, 3 * time);
+            let t = two(|| run(plan, &file), || run(reference, &file), 300, time);
             line += &row("program", t);
             println!("{line}");
         }

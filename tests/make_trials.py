@@ -86,35 +86,50 @@ def plain(links, root=1, tag=100, head=None):
 
 
 def sheets(t):
-    """The sheets of document 01."""
+    """The sheets of document 01, held to what the paper itself says: links, root, and the points of records 1, 2, .."""
+    def says(line, back=1):
+        assert t.lines[-back] == line, (line, t.lines[-back])
+
+    two = [(0, 0), (1, 1)]
     drawn = [
-        ([], 0), ([(0, 0)], 1), ([(2, 0), (0, 0)], 1), ([(0, 2), (0, 0)], 1), ([(2, 3), (0, 0), (0, 0)], 1),
-        ([(2, 3), (0, 0), (4, 0), (0, 0)], 1), ([(2, 3), (0, 0), (0, 4), (0, 0)], 1),
-        ([(0, 2), (3, 4), (0, 0), (5, 0), (0, 0)], 1), ([(0, 2), (3, 4), (0, 0), (0, 5), (0, 0)], 1),
-        # y and z hung on a right side: a right knee with a left subtree of three
-        ([(0, 2), (3, 4), (0, 0), (5, 8), (6, 7), (0, 0), (0, 0), (9, 0), (10, 0), (11, 0), (0, 0)], 1),
+        ([], 0, []), ([(0, 0)], 1, [(0, 0)]), ([(2, 0), (0, 0)], 1, two), ([(0, 2), (0, 0)], 1, two),
+        ([(2, 3), (0, 0), (0, 0)], 1, [(0, 0), (1, 2), (1, 1)]),
+        ([(2, 3), (0, 0), (4, 0), (0, 0)], 1, [(0, 0), (1, 3), (1, 1), (1, 2)]),
+        ([(2, 3), (0, 0), (0, 4), (0, 0)], 1, [(0, 0), (1, 3), (1, 1), (1, 2)]),
+        ([(0, 2), (3, 4), (0, 0), (5, 0), (0, 0)], 1, [(0, 0), (1, 1), (1, 2), (3, 2), (2, 3)]),
+        ([(0, 2), (3, 4), (0, 0), (0, 5), (0, 0)], 1, [(0, 0), (1, 1), (1, 2), (3, 2), (2, 3)]),
         # the six of the program's sheet, and the ten of the finding on document 004
-        ([(2, 3), (0, 0), (4, 5), (0, 0), (6, 0), (0, 0)], 1),
-        ([(0, 2), (3, 6), (0, 4), (0, 5), (0, 0), (7, 10), (8, 9), (0, 0), (0, 0), (0, 0)], 1),
+        ([(2, 3), (0, 0), (4, 5), (0, 0), (6, 0), (0, 0)], 1, [(0, 0), (1, 3), (1, 1), (1, 2), (3, 2), (2, 4)]),
+        ([(0, 2), (3, 6), (0, 4), (0, 5), (0, 0), (7, 10), (8, 9), (0, 0), (0, 0), (0, 0)], 1, []),
     ]
-    for links, root in drawn:
+    for links, root, points in drawn:
         t.both(packed(plain(links, root)), 60000, 7, extra=3)
-    for places in ([0, 0, 0, 0, 0, 1, 0, 2], [0, 0, 0, 0, 2, 1, 1, 1]):
-        t.table(packed(plain([(2, 3), (0, 0), (0, 0)])))
+        assert t.places[2:2 + 2 * len(points)] == [x for point in points for x in point]
+        if len(links) in (0, 1, 3, 6):
+            says('draw 0 %s' % {0: '0 0 0', 1: '1 1 1', 3: '3 2 3', 6: '6 4 5'}[len(links)], back=3)
+    # y and z (6 and 7) below 5, which hangs from a right knee
+    t.both(packed(plain([(0, 2), (3, 4), (0, 0), (5, 8), (6, 7), (0, 0), (0, 0), (9, 0), (10, 0), (11, 0), (0, 0)])), 60000, 7)
+    x, y = t.places[10:12]
+    assert t.places[12:16] == [x - 1, y + 1, x - 1, y + 2]
+    for links, places, verdict in (
+            ([(2, 3), (0, 0), (0, 0)], [0, 0, 0, 0, 0, 1, 0, 2], 23), ([(2, 3), (0, 0), (0, 0)], [0, 0, 0, 0, 2, 1, 1, 1], 24),
+            ([(2, 0), (0, 0)], [0, 0, 0, 0, 1, 0], 22)):
+        t.table(packed(plain(links)))
         t.numbers(places)
         t.check()
-    t.table(packed(plain([(2, 0), (0, 0)])))
-    t.numbers([0, 0, 0, 0, 1, 0])
-    t.check()
-    for n in sorted({0, 1, 2, 3, 4, 4096, 4097, 65535, 65536, 65537, 2 ** 32, 2 ** 32 + 1, 2 ** 48 - 1} |
+        says('check %d' % verdict)
+    paper = {0: 0, 1: 1, 2: 4, 3: 4, 4: 7, 4096: 37, 4097: 0}
+    for n in sorted(set(paper) | {65535, 65536, 65537, 2 ** 32, 2 ** 32 + 1, 2 ** 48 - 1} |
                     {2 ** k + d for k in range(2, 13) for d in (-1, 0, 1)}):
         t.width(n)
+        says('width %d' % paper.get(n, racksheet.allowed_width(n)))
     full = plain([(k + 1, 0) for k in range(1, 4096)] + [(0, 0)])
-    t.both(packed(full), 5, 11)                                             # 32,776 bytes may be accepted
-    t.both(packed(full + [[0, 0, 0, 0]]), 5, 11)                            # 32,784 gives 1
-    t.both(packed([[0, 1, 0, 0]]), 9, 1)                                    # head alone with root 1
-    t.both(packed(plain([(2, 2), (0, 0)])), 9, 1)                           # left and right naming one
-    t.both(packed(plain([(2, 3), (0, 0), (0, 0)])), 9, 1, short=1)          # placements one number short
+    for words, short, answer in (
+            (full, 0, 0), (full + [[0, 0, 0, 0]], 0, 1),                    # 32,776 bytes may be accepted, 32,784 gives 1
+            ([[0, 1, 0, 0]], 0, 5), (plain([(2, 2), (0, 0)]), 0, 5),        # head alone with root 1; left and right naming one
+            (plain([(2, 3), (0, 0), (0, 0)]), 1, 6)):                       # placements one number short
+        t.both(packed(words), 9, 11, short=short)
+        says('check %d' % answer)
 
 
 def refusals(t):
