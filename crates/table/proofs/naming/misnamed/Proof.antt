@@ -24,16 +24,16 @@ returns c =
     let a = c .before .before .before .before .before .before .args in
     simp (ne-eqb (named (a .table .now) (a .root)) 0 (λ e. omega (arith, c .before .before .count .ensures .tallies (a .root))))
 
-slice-aggregate-uneven : tie.Need-slice-aggregate-uneven
-slice-aggregate-uneven c = search needs
+slice-aggregate-some-not-once : tie.Need-slice-aggregate-some-not-once
+slice-aggregate-some-not-once c = search needs
 
-uneven-requires : tie.Need-uneven-requires
-uneven-requires c κs = search needs
+some-not-once-requires : tie.Need-some-not-once-requires
+some-not-once-requires c κs = search needs
 
 returns-2 : tie.Need-returns-2
 returns-2 c =
     let a = c .before .before .before .before .before .before .before .before .args in
-    simp (eq-eqb (named (a .table .now) (a .root)) 0 (omega (arith, c .before .before .before .before .count .ensures .tallies (a .root)))) (c .uneven .ensures)
+    simp (eq-eqb (named (a .table .now) (a .root)) 0 (omega (arith, c .before .before .before .before .count .ensures .tallies (a .root)))) (c .some-not-once .ensures)
 
 pub misnamed-spec : {M : Type 1} → statement M
 misnamed-spec =
@@ -44,6 +44,6 @@ misnamed-spec =
     mul-if1
     array-read-if1
     returns
-    slice-aggregate-uneven
-    uneven-requires
+    slice-aggregate-some-not-once
+    some-not-once-requires
     returns-2)
