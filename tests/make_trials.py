@@ -85,7 +85,7 @@ def plain(links, root=1, tag=100, head=None):
     return words
 
 
-def sheets(t):
+def worked(t):
     """The sheets of document 01, held to what the paper itself says: links, root, and the points of records 1, 2, .."""
     def says(line, back=1):
         assert t.lines[-back] == line, (line, t.lines[-back])
@@ -328,7 +328,7 @@ def random_trees(t, rng):
 def main():
     rng = random.Random(SEED)
     t = Trials()
-    sheets(t)
+    worked(t)
     refusals(t)
     damaged(t, rng)
     verdicts(t, rng)
