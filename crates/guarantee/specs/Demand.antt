@@ -1,4 +1,6 @@
 -- Demand 3, for the bytes t and the placements p: what an accepted drawing keeps.
+use mathlib.Core.Path.{_≡_}
+use mathlib.Core.Logic.{_≢_}
 use mathlib.Core.List.{List}
 use Prim.Native.Nat.{ℕ, _≤_}
 use lib.ListN.{length}
@@ -6,9 +8,17 @@ use Rattle.table.specs.Table.{chain}
 use Rattle.drawing.specs.Answer.{drawnOf, placedIn}
 use Rattle.verdict.specs.Verdict.{Verdict}
 use Rattle.width.specs.Allowed.{allowedWidth}
+use Rattle.guarantee.specs.declared.Checked.{Checked}
 
 -- "the check says good of the placements as the drawer left them, width ≤ 3·floor(log2 n) + 1, height ≤ n"; "n is the number of records on the chain"
 pub record Kept (t p : List ℕ) : Type 0 where
   pub good : Verdict t (placedIn t p) 0
   pub narrow : drawnOf t p .plan .width ≤ allowedWidth (length (chain t))
   pub short : drawnOf t p .plan .height ≤ length (chain t)
+
+-- The same of the running code, for its answer r and the placements p′ afterwards: "accepted means verdict 0 .. refused means the drawer's refusal and every placement as lent"
+pub record Guaranteed (t p : List ℕ) (r : Checked) (p′ : List ℕ) : Type 0 where
+  pub drawn : r .drawn ≡ drawnOf t p
+  pub after : p′ ≡ placedIn t p
+  pub accepted : r .drawn .refusal ≡ 0 → (r .verdict ≡ 0) × ((r .drawn .plan .width ≤ allowedWidth (length (chain t))) × (r .drawn .plan .height ≤ length (chain t)))
+  pub refused : r .drawn .refusal ≢ 0 → (r .verdict ≡ r .drawn .refusal) × (p′ ≡ p)

@@ -1,3 +1,4 @@
+-- The laws of tables, in the order in which they rest on each other; then those that the steps of a reading need.
 pub mod Lists
 pub mod Chain
 pub mod Causes

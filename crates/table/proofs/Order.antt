@@ -1,25 +1,23 @@
--- The breadth-first order: how it grows, what it reaches, and that children stand after their parents. Rests on Lists, Chain, Causes and Scan.
+-- The breadth-first order: how it starts and grows, within the chain. Rests on Lists, Chain, Causes and Scan.
 use mathlib.Core.Path.{_≡_, refl, sym, ap, _∙_, subst}
-use mathlib.Core.Logic.{_⊎_, inl, inr, ⊎-elim, ⊎-map}
-use mathlib.Core.Bool.{Bool, true, false, not, cond, _&&_, _||_}
-use mathlib.Core.List.{List, [], _∷_, _++_, append-assoc, append-nil}
-use Prim.Native.Nat.{ℕ, zero, suc, _+_, _-_, _≤_, _<_}
+use mathlib.Core.Logic.{inr}
+use mathlib.Core.List.{List, [], _∷_, _++_, append-assoc}
+use Prim.Native.Nat.{ℕ, zero, suc, _+_, _≤_, _<_}
 use native.Mathlib.Decide.{decLt}
 use native.Mathlib.Numerals.{add-one}
 use native.Mathlib.Omega.{arith}
-use lib.Dec.{T, eqb, eqb→eq, eqb·zero-suc, eqb·suc-zero}
+use lib.Dec.{T, eqb·zero-suc, eqb·suc-zero}
 use lib.ListN.{length, getD, take, drop, set, length-set, length-append, take-append-drop}
-use lib.Seq.{take-suc, take-suc-set, getD-take, take-append-le, take-all, length-take-le}
+use lib.Seq.{take-suc, take-suc-set, getD-take, take-append-le, length-take-le}
 use borrow.Author.Tests.{ne-eqb}
-use Rattle.table.specs.Lists.{any, member, count}
-use Rattle.table.specs.Table.{Side, left, right, records, leftOf, rightOf, linkOf, rootOf, chain}
-use Rattle.table.specs.Tree.{nodes, tree, descend}
-use Rattle.table.specs.Refusal.{links, named}
-use Rattle.table.specs.Steps.{Rooted, Queue, present, notOnce, notReached}
-use Rattle.table.proofs.Lists.{passes, any-false, same, same-one, Alike, alike, count-append, member-count, Within, length-within, links-within}
-use Rattle.table.proofs.Chain.{links-append, namer, reached}
+use Rattle.table.specs.Lists.{member, count}
+use Rattle.table.specs.Table.{records, leftOf, rightOf, rootOf, chain}
+use Rattle.table.specs.Refusal.{links}
+use Rattle.table.specs.Steps.{Rooted, Queue, present, notOnce}
+use Rattle.table.proofs.Lists.{same, count-append, member-count, Within, length-within, links-within}
+use Rattle.table.proofs.Chain.{links-append}
 use Rattle.table.proofs.Causes.{Parented, sound-within, sound-length, sound-once, named-within}
-use Rattle.table.proofs.Scan.{member-at, place}
+use Rattle.table.proofs.Scan.{member-at}
 
 pub present-none : (k : ℕ) → k ≡ 0 → present (k ∷ []) ≡ []
 unfolding present

@@ -3,14 +3,14 @@
 use mathlib.Core.Path.{_≡_, refl, sym, ap, _∙_, subst}
 use mathlib.Core.Logic.{inl, inr}
 use mathlib.Core.Bool.{Bool, true, false, not}
-use mathlib.Core.List.{List, [], _∷_, _++_}
+use mathlib.Core.List.{List, _∷_, _++_}
 use Prim.Native.Nat.{ℕ, zero, suc, _+_, _≤_, _<_}
 use native.Mathlib.Omega.{arith}
 use lib.Dec.{T}
 use lib.ListN.{length, getD, take, drop, take-append-drop, List·getD-append}
 use lib.Seq.{take-length, drop-cons, drop-append-le, length-take-le, getD-take}
-use Rattle.table.specs.Lists.{any, member, count}
-use Rattle.table.specs.Table.{Side, left, right, records, leftOf, rightOf, linkOf, rootOf, chain}
+use Rattle.table.specs.Lists.{member, count}
+use Rattle.table.specs.Table.{Side, records, linkOf, rootOf, chain}
 use Rattle.table.specs.Tree.{nodes, tree}
 use Rattle.table.specs.Refusal.{links}
 use Rattle.table.specs.Steps.{Rooted, Queue, Filled, present, notReached}

@@ -1,19 +1,19 @@
 -- Going through a listed chain: where its records are, and when none of them passes a test. Rests on Lists and Causes.
 use mathlib.Core.Path.{_≡_, refl, sym, ap, _∙_, subst}
-use mathlib.Core.Logic.{_⊎_, inl, inr, ⊎-elim}
+use mathlib.Core.Logic.{inl, inr, ⊎-elim}
 use mathlib.Core.Bool.{Bool, true, false, not, cond, _&&_, _||_, or-true}
 use mathlib.Core.List.{List, [], _∷_}
-use Prim.Native.Nat.{ℕ, zero, suc, _≤_, _<_}
+use Prim.Native.Nat.{ℕ, zero, suc, _<_}
 use native.Mathlib.Omega.{arith}
-use lib.Dec.{T, eqb, leb}
-use lib.ListN.{length, getD, take}
+use lib.Dec.{T, eqb}
+use lib.ListN.{length, getD}
 use lib.Seq.{getD-take}
-use borrow.Author.Tests.{eq-eqb, lt-leb, le-leb}
+use borrow.Author.Tests.{lt-leb}
 use Rattle.table.specs.Lists.{any, member}
 use Rattle.table.specs.Table.{records, chain}
 use Rattle.table.specs.Refusal.{beyond, stray}
 use Rattle.table.specs.Steps.{Listed, Marked}
-use Rattle.table.proofs.Lists.{T-true, T-false, member-cons, any-false}
+use Rattle.table.proofs.Lists.{T-true, member-cons, any-false}
 use Rattle.table.proofs.Causes.{sound-within}
 
 -- What stands at a place is a member, and a member stands at a place.

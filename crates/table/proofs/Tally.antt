@@ -1,16 +1,16 @@
 -- Counting the links of a listed chain. Rests on Lists, Chain, Causes and Scan.
-use mathlib.Core.Path.{_≡_, refl, sym, ap, _∙_}
-use mathlib.Core.Logic.{_⊎_, inl, inr, ⊎-elim}
-use mathlib.Core.Bool.{Bool, true, false, cond}
+use mathlib.Core.Path.{_≡_, refl, _∙_}
+use mathlib.Core.Logic.{inl, inr, ⊎-elim}
+use mathlib.Core.Bool.{false}
 use mathlib.Core.List.{List, [], _∷_, _++_, append-assoc}
-use Prim.Native.Nat.{ℕ, zero, suc, _+_, _*_, _≤_, _<_}
+use Prim.Native.Nat.{ℕ, suc, _+_, _*_, _≤_, _<_}
 use native.Mathlib.Numerals.{add-one}
 use native.Mathlib.Omega.{arith}
-use lib.Dec.{T, eqb}
+use lib.Dec.{T}
 use lib.ListN.{length, getD, take, set, length-set, length-append}
 use lib.Seq.{take-suc, getD-set-same, getD-set-other, length-take-le}
 use Rattle.table.specs.Lists.{member, count}
-use Rattle.table.specs.Table.{Side, left, right, records, leftOf, rightOf, linkOf, chain}
+use Rattle.table.specs.Table.{Side, leftOf, rightOf, linkOf, chain}
 use Rattle.table.specs.Refusal.{badLinks, links}
 use Rattle.table.specs.Steps.{Listed, Blank, Tallied}
 use Rattle.table.proofs.Lists.{same, same-one, Alike, alike, count-append}

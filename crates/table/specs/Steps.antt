@@ -7,7 +7,7 @@ use lib.Dec.{T, eqb}
 use lib.ListN.{length, getD, take}
 use Rattle.table.specs.declared.Reading.{Reading}
 use Rattle.table.specs.Lists.{any, member, count}
-use Rattle.table.specs.Table.{records, chain, leftOf, rightOf, rootOf}
+use Rattle.table.specs.Table.{records, chain, rootOf}
 use Rattle.table.specs.Tree.{nodes, tree, treeAt, size}
 use Rattle.table.specs.Refusal.{badLength, badHead, badChain, badLinks, badTree, links, named}
 

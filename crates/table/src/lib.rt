@@ -26,7 +26,7 @@ pub struct Reading {
     pub nodes: usize,
 }
 
-pub fn refused(cause: u16) -> Reading
+fn refused(cause: u16) -> Reading
     ensures { λ r. ⌜ r ≡ record { refusal = cause; nodes = 0 } ⌝ }
 {
     Reading {

@@ -35,7 +35,7 @@ fn count(table: &[u8], chain: &[u16], nodes: usize, tally: &mut [u16])
 }
 
 // Whether record k is another than the root and not named exactly once.
-fn odd(tally: &[u16], root: usize, k: usize) -> bool
+fn not_once(tally: &[u16], root: usize, k: usize) -> bool
     requires { ⌜ k < length (now tally) ⌝ }
     ensures { λ r. ⌜ r ≡ (not (eqb k root) && not (eqb (getD (now (tally .entry)) k 0) 1)) ⌝ }
 {
@@ -46,7 +46,7 @@ fn odd(tally: &[u16], root: usize, k: usize) -> bool
 }
 
 // Whether a chained node is so.
-fn uneven(table: &[u8], chain: &[u16], nodes: usize, tally: &[u16], root: usize) -> bool
+fn some_not_once(table: &[u8], chain: &[u16], nodes: usize, tally: &[u16], root: usize) -> bool
     requires { ⌜ Listed (now table) nodes (now chain) ⌝ }
     requires { ⌜ Tallied (now table) (now tally) ⌝ }
     requires { ⌜ root ≡ rootOf (now table) ⌝ }
@@ -54,7 +54,7 @@ fn uneven(table: &[u8], chain: &[u16], nodes: usize, tally: &[u16], root: usize)
 {
     let mut i = 0;
     while i < nodes {
-        if odd(tally, root, chain[i] as usize) {
+        if not_once(tally, root, chain[i] as usize) {
             return true;
         }
         i += 1;
@@ -75,5 +75,5 @@ pub fn misnamed(table: &[u8], chain: &[u16], nodes: usize, root: usize) -> bool
     if tally[root] != 0 {
         return true;
     }
-    uneven(table, chain, nodes, &tally, root)
+    some_not_once(table, chain, nodes, &tally, root)
 }

@@ -5,7 +5,7 @@ ghost use mathlib.Core.Path.{_≡_};
 ghost use mathlib.Core.Bool.{true, not};
 ghost use mathlib.Core.List.{_++_, [], _∷_};
 ghost use Prim.Native.Nat.{_+_, _≤_, _<_};
-ghost use lib.ListN.{length, getD, take};
+ghost use lib.ListN.{length, take};
 ghost use Rattle.table.specs.Table.{chain as chainOf};
 ghost use Rattle.table.specs.Refusal.{fault};
 ghost use Rattle.table.specs.Steps.{Rooted, Queue, Filled, present, notReached};

@@ -3,7 +3,6 @@ use crate::Reading;
 use crate::refused;
 use crate::words::next;
 ghost use mathlib.Core.Path.{_≡_};
-ghost use Prim.Native.Nat.{_<_};
 ghost use lib.ListN.{length};
 ghost use Rattle.table.specs.Steps.{Shaped, Blank, Walked};
 

@@ -1,5 +1,5 @@
 -- Lines that go down: their ends differ, and two that are apart by their rows do not clash.
-use mathlib.Core.Path.{_≡_, ap}
+use mathlib.Core.Path.{ap}
 use mathlib.Core.Logic.{_↔_, _≢_}
 use mathlib.Core.Bool.{false}
 use mathlib.Core.List.{List}

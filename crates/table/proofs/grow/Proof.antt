@@ -13,40 +13,27 @@ use Rattle.table.proofs.Rooting.{rootless, grown-bad, grown, marked-by,
 use borrow.Author.Needs.{needs}
 use Rattle.table.proofs.grow.Statement.{statement}
 use Rattle.table.proofs.grow.Tie as tie
-use Rattle.table.proofs.grow.Reads as reads
-use Rattle.table.proofs.grow.Lts as lts
-use Rattle.table.proofs.links.marked.Reads as marked-reads
-use Rattle.table.proofs.naming.misnamed.Reads as misnamed-reads
-use Rattle.table.proofs.reach.reaches.Reads as reaches-reads
-use Rattle.table.proofs.words.left.Reads as left-reads
 
--- src/lib.rt:69:5
 slice-write-sizes : tie.Need-slice-write-sizes
 slice-write-sizes c = search needs
 
--- src/lib.rt:70:9
 left-requires : tie.Need-left-requires
 left-requires c κs = search needs
 
--- src/lib.rt:72:9
 same-length : tie.Need-same-length
 same-length c = search needs
 
--- src/lib.rt:72:9
 returns : tie.Need-returns
 returns c =
     let s = c .before .before .before .before .before .before in
     rootless _ _ _ _ (s .pre .0) (sym (c .before .left .ensures .0) ∙ c .if1 .taken) (unfilled _ (s .args .sizes .now) (s .pre .1 .1 .1))
 
--- src/lib.rt:74:9
 marked-requires : tie.Need-marked-requires
 marked-requires c κs = search needs
 
--- src/lib.rt:75:9
 same-length-2 : tie.Need-same-length-2
 same-length-2 c = search needs
 
--- src/lib.rt:75:9
 returns-2 : tie.Need-returns-2
 returns-2 c =
     let s = c .before .before .before .before .before .before .before .before in
@@ -62,34 +49,28 @@ well-rooted c =
     let s = m .before .before .before .before .before .before .before .before in
     rooted _ _ (m .before .before .before .left .ensures .0) (m .before .before .if1 .left) (on-chain m) (sym (c .before .misnamed .ensures) ∙ c .if3 .left) (s .pre .0 .shaped) (s .pre .0 .sound) (s .pre .1 .1 .0)
 
--- src/lib.rt:77:8
 misnamed-requires : tie.Need-misnamed-requires
 misnamed-requires c κs =
     let s = c .before .before .before .before .before .before .before .before in
     let h = sound-within _ (s .pre .0 .sound) (c .before .before .before .left .result) (T-true _ .1 (on-chain c)) in
     (s .pre .0, (s .pre .1 .1 .0, (c .before .before .before .left .ensures .0, omega (arith, h, s .pre .0 .shaped .room))))
 
--- src/lib.rt:78:9
 same-length-3 : tie.Need-same-length-3
 same-length-3 c = search needs
 
--- src/lib.rt:78:9
 returns-3 : tie.Need-returns-3
 returns-3 c =
     let m = c .before .before in
     grown-bad _ _ (ill-named _ _ (m .before .before .before .left .ensures .0) (m .before .before .if1 .left) (sym (c .before .misnamed .ensures) ∙ c .if3 .taken))
 
--- src/lib.rt:80:5
 reaches-requires : tie.Need-reaches-requires
 reaches-requires c κs =
     let s = c .before .before .before .before .before .before .before .before .before .before .before in
     (well-rooted (c .before), (s .pre .0 .nodes, unfilled _ (s .args .sizes .now) (s .pre .1 .1 .1)))
 
--- src/lib.rt:62:1
 same-length-4 : tie.Need-same-length-4
 same-length-4 c = c .before .before .reaches .kept .1 .1 .0 ∙ simp length-set
 
--- src/lib.rt:62:1
 returns-4 : tie.Need-returns-4
 returns-4 c =
     let q = c .before .before in

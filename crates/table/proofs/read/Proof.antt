@@ -2,7 +2,7 @@
 use mathlib.Core.Path.{_≡_, sym, _∙_}
 use mathlib.Core.Bool.{false}
 use borrow.Author.Tests.{not-true, not-false}
-use Rattle.table.specs.Refusal.{badLinks, badTree}
+use Rattle.table.specs.Refusal.{badLinks}
 use Rattle.table.specs.Steps.{Shaped, Listed}
 use Rattle.table.proofs.Form.{shaped}
 use Rattle.table.proofs.Zeros.{blank}
@@ -10,27 +10,17 @@ use Rattle.table.proofs.Answer.{refused-form, refused-chain, refused-li
 use borrow.Author.Needs.{needs}
 use Rattle.table.proofs.read.Statement.{statement}
 use Rattle.table.proofs.read.Tie as tie
-use Rattle.table.proofs.read.Reads as reads
-use Rattle.table.proofs.read.Lts as lts
-use Rattle.table.proofs.grow.Reads as grow-reads
-use Rattle.table.proofs.links.strays.Reads as strays-reads
-use Rattle.table.proofs.refused.Reads as refused-reads
-use Rattle.table.proofs.shape.Reads as shape-reads
-use Rattle.table.proofs.walk.walk.Reads as walk-reads
 
--- src/lib.rt:88:9
 shape-requires : tie.Need-shape-requires
 shape-requires c κs = search needs
 
--- src/lib.rt:90:9
 refused-requires : tie.Need-refused-requires
 refused-requires c κs = search needs
 
--- src/lib.rt:90:9
 returns : tie.Need-returns
 returns c = rw (c .refused .ensures) (refused-form _ _ _ _ _ (c .before .before .shape .ensures) (c .before .if1 .taken))
 
--- Past the first test the table is well formed, past the second its chain is listed, past the third its links are sound, past the fourth there is a tree.
+-- Past the first test the table is well formed, past the second its chain is listed, past the third its links are sound.
 formed : (c : tie.Else1) → Shaped (c .before .before .before .before .before .args .table .now)
 formed c = shaped _ (sym (c .before .shape .ensures) ∙ c .if1 .left)
 
@@ -40,49 +30,38 @@ listed c = c .before .before .before .before .before .walk .ensures .chained (c 
 linked : (c : tie.Else3) → badLinks (c .before .before .before .before .before .before .before .before .before .before .before .before .before .before .before .before .before .args .table .now) ≡ false
 linked c = sym (c .before .strays .ensures) ∙ c .if3 .left
 
--- src/lib.rt:93:37
 slice-aggregate-walk : tie.Need-slice-aggregate-walk
 slice-aggregate-walk c = search needs
 
--- src/lib.rt:93:9
 walk-requires : tie.Need-walk-requires
 walk-requires c κs = (formed (c .before .before), (c .before .before .before .before .before .before .before .pre .0, blank))
 
--- src/lib.rt:95:9
 same-length : tie.Need-same-length
 same-length c = search needs
 
--- src/lib.rt:95:9
 returns-2 : tie.Need-returns-2
 returns-2 c = let w = c .before .before .before .before .before in refused-chain _ _ _ _ _ (formed (w .before .before .before)) (w .walk .ensures .refusal) (c .if2 .taken)
 
--- src/lib.rt:98:36
 slice-aggregate-strays : tie.Need-slice-aggregate-strays
 slice-aggregate-strays c = search needs
 
--- src/lib.rt:98:8
 strays-requires : tie.Need-strays-requires
 strays-requires c κs = let e = c .before .before in (listed e, e .before .before .before .before .before .walk .ensures .marked (e .if2 .left))
 
--- src/lib.rt:99:9
 refused-requires-2 : tie.Need-refused-requires-2
 refused-requires-2 c κs = search needs
 
--- src/lib.rt:99:9
 same-length-2 : tie.Need-same-length-2
 same-length-2 c = search needs
 
--- src/lib.rt:99:9
 returns-3 : tie.Need-returns-3
 returns-3 c =
     let l = listed (c .before .before .before .before .before) in
     rw (c .refused2 .ensures) (refused-links _ _ _ _ (l .shaped) (l .sound) (sym (c .before .before .strays .ensures) ∙ c .before .if3 .taken))
 
--- src/lib.rt:101:35
 slice-aggregate-grow : tie.Need-slice-aggregate-grow
 slice-aggregate-grow c = search needs
 
--- src/lib.rt:101:9
 grow-requires : tie.Need-grow-requires
 grow-requires c κs =
     let d = c .before .before .before in
@@ -90,19 +69,15 @@ grow-requires c κs =
     let w = e .before .before .before .before .before in
     (listed e, (w .walk .ensures .marked (e .if2 .left), (linked d, w .before .before .before .before .before .before .before .before .pre .1)))
 
--- src/lib.rt:102:9
 refused-requires-3 : tie.Need-refused-requires-3
 refused-requires-3 c κs = search needs
 
--- src/lib.rt:102:9
 same-length-3 : tie.Need-same-length-3
 same-length-3 c = search needs
 
--- src/lib.rt:102:9
 same-length-4 : tie.Need-same-length-4
 same-length-4 c = search needs
 
--- src/lib.rt:102:9
 returns-4 : tie.Need-returns-4
 returns-4 c =
     let g = c .before .before .before .before in
@@ -110,23 +85,18 @@ returns-4 c =
     let l = listed (d .before .before .before .before) in
     rw (c .refused3 .ensures) (refused-tree _ _ _ _ (l .shaped) (l .sound) (linked d) (not-false _ (sym (g .grow .ensures .good) ∙ not-true _ (c .before .if4 .taken))))
 
--- src/lib.rt:104:17
 mul-if5 : tie.Need-mul-if5
 mul-if5 c = search needs
 
--- src/lib.rt:105:9
 refused-requires-4 : tie.Need-refused-requires-4
 refused-requires-4 c κs = search needs
 
--- src/lib.rt:105:9
 same-length-5 : tie.Need-same-length-5
 same-length-5 c = search needs
 
--- src/lib.rt:105:9
 same-length-6 : tie.Need-same-length-6
 same-length-6 c = search needs
 
--- src/lib.rt:105:9
 returns-5 : tie.Need-returns-5
 returns-5 c =
     let g = c .before .before .before .before .before in
@@ -135,15 +105,12 @@ returns-5 c =
     rw (c .refused4 .ensures)
     (refused-placements _ _ _ _ (l .shaped) (l .sound) (linked d) (not-true _ (sym (g .grow .ensures .good) ∙ not-false _ (c .before .before .if4 .left))) (c .before .if5 .taken))
 
--- src/lib.rt:84:1
 same-length-7 : tie.Need-same-length-7
 same-length-7 c = search needs
 
--- src/lib.rt:84:1
 same-length-8 : tie.Need-same-length-8
 same-length-8 c = search needs
 
--- src/lib.rt:84:1
 returns-6 : tie.Need-returns-6
 returns-6 c =
     let g = c .before .before .before .before in

@@ -1,35 +1,27 @@
+-- `shape` answers causes 1 and 2.
 use mathlib.Core.Path.{sym, _∙_}
 use Rattle.table.proofs.Form.{right-named, tag-given, well-formed}
-use borrow.Author.Tests.{eq-eqb, ne-eqb, lt-ltb, le-ltb}
-use Rattle.table.specs.Refusal.{badLength, badHead}
+use borrow.Author.Tests.{eq-eqb, ne-eqb, lt-ltb}
+use Rattle.table.specs.Refusal.{badLength}
 use borrow.Author.Needs.{needs}
 use Rattle.table.proofs.shape.Statement.{statement}
 use Rattle.table.proofs.shape.Tie as tie
-use Rattle.table.proofs.shape.Reads as reads
-use Rattle.table.proofs.shape.Lts as lts
-use Rattle.table.proofs.words.right.Reads as right-reads
-use Rattle.table.proofs.words.tag.Reads as tag-reads
 
--- src/lib.rt:36:9
 returns : tie.Need-returns
 unfolding badLength
 returns c = simp (eq-eqb _ _ (c .if1 .taken))
 
--- src/lib.rt:39:9
 returns-2 : tie.Need-returns-2
 unfolding badLength
 returns-2 c = simp (ne-eqb _ _ (c .before .if1 .left), ne-eqb _ _ (c .if2 .taken))
 
--- src/lib.rt:42:9
 returns-3 : tie.Need-returns-3
 unfolding badLength
 returns-3 c = simp (ne-eqb _ _ (c .before .before .if1 .left), eq-eqb _ _ (c .before .if2 .left), lt-ltb _ _ (c .if3 .taken))
 
--- src/lib.rt:44:8
 right-requires : tie.Need-right-requires
 right-requires c κs = search needs
 
--- src/lib.rt:45:9
 returns-4 : tie.Need-returns-4
 returns-4 c =
     right-named
@@ -39,11 +31,9 @@ returns-4 c =
     (c .before .before .if3 .left)
     (λ e. c .if4 .taken (c .before .right .ensures .0 ∙ e))
 
--- src/lib.rt:47:8
 tag-requires : tie.Need-tag-requires
 tag-requires c κs = search needs
 
--- src/lib.rt:48:9
 returns-5 : tie.Need-returns-5
 returns-5 c =
     tag-given
@@ -54,7 +44,6 @@ returns-5 c =
     (sym (c .before .before .before .right .ensures .0) ∙ c .before .before .if4 .left)
     (λ e. c .if5 .taken (c .before .tag .ensures .0 ∙ e))
 
--- src/lib.rt:31:1
 returns-6 : tie.Need-returns-6
 returns-6 c =
     well-formed

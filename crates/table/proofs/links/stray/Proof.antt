@@ -1,21 +1,16 @@
+-- `stray` answers whether a link names a record that is not marked.
 use mathlib.Core.Bool.{Bool·not-not}
 use borrow.Author.Tests.{eq-eqb, ne-eqb}
 use borrow.Author.Needs.{needs}
 use Rattle.table.proofs.links.stray.Statement.{statement}
 use Rattle.table.proofs.links.stray.Tie as tie
-use Rattle.table.proofs.links.stray.Reads as reads
-use Rattle.table.proofs.links.stray.Lts as lts
-use Rattle.table.proofs.links.marked.Reads as marked-reads
 
--- src/links.rt:26:9
 returns : tie.Need-returns
 returns c = simp (eq-eqb _ _ (c .if1 .taken))
 
--- src/links.rt:28:6
 marked-requires : tie.Need-marked-requires
 marked-requires c κs = search needs
 
--- src/links.rt:22:1
 returns-2 : tie.Need-returns-2
 returns-2 c = simp (ne-eqb _ _ (c .before .if1 .left), c .marked .ensures, Bool·not-not)
 

@@ -6,17 +6,12 @@ use Prim.Native.Nat.{ℕ, _-_, _≤_, _<_}
 use native.Mathlib.Omega.{arith}
 use borrow.Author.Count.{below-none, below-more}
 use borrow.Author.Needs.{needs}
-use lib.ListN.{length, getD}
+use lib.ListN.{getD}
 use Rattle.table.specs.Table.{leftOf, rightOf}
 use Rattle.table.specs.Refusal.{stray, badLinks}
 use Rattle.table.proofs.Scan.{listed-inside, scan-hit, scan-none, stray-by}
 use Rattle.table.proofs.links.strays.Statement.{statement}
 use Rattle.table.proofs.links.strays.Tie as tie
-use Rattle.table.proofs.links.strays.Reads as reads
-use Rattle.table.proofs.links.strays.Lts as lts
-use Rattle.table.proofs.links.stray.Reads as stray-reads
-use Rattle.table.proofs.words.left.Reads as left-reads
-use Rattle.table.proofs.words.right.Reads as right-reads
 
 abbrev strayed : List ℕ → ℕ → Bool
 strayed t k = stray t (leftOf t k) || stray t (rightOf t k)
@@ -27,31 +22,24 @@ Inv-loop table chain nodes mark i₀ i = (i ≤ nodes) × ((j : ℕ) → j < i �
 abbrev μ-loop : tie.MeasureT-loop
 μ-loop table chain nodes mark i₀ i = nodes - i
 
--- src/links.rt:38:5
 loop-holds : tie.Need-loop-holds Inv-loop μ-loop
 loop-holds c = (omega arith, below-none _)
 
--- src/links.rt:39:17
 mul-k : tie.Need-mul-k Inv-loop μ-loop
 mul-k c = search needs
 
--- src/links.rt:39:17
 shared-slice-read-k : tie.Need-shared-slice-read-k Inv-loop μ-loop
 shared-slice-read-k c = search needs
 
--- src/links.rt:39:17
 cast-k : tie.Need-cast-k Inv-loop μ-loop
 cast-k c = omega (arith, c .shared-slice-known4 .given (c .before .before .loop .i))
 
--- src/links.rt:40:24
 left-requires : tie.Need-left-requires Inv-loop μ-loop
 left-requires c κs = listed-inside _ _ _ (c .before .before .before .before .before .before .pre .0) _ (c .before .loop-test .taken)
 
--- src/links.rt:40:12
 stray-requires : tie.Need-stray-requires Inv-loop μ-loop
 stray-requires c κs = search needs
 
--- src/links.rt:41:13
 returns : tie.Need-returns Inv-loop μ-loop
 unfolding badLinks
 returns c =
@@ -59,15 +47,12 @@ returns c =
     let e : stray (s .args .table .now) _ ≡ true = stray-by _ _ _ (s .pre .0) _ (s .pre .1) _ _ _ _ (c .if1 .taken) (c .before .stray .ensures) (c .before .before .left .ensures .0) in
     sym (scan-hit _ _ _ (s .pre .0) (strayed (s .args .table .now)) _ (c .before .before .before .before .loop-test .taken) (rw e))
 
--- src/links.rt:43:24
 right-requires : tie.Need-right-requires Inv-loop μ-loop
 right-requires c κs = listed-inside _ _ _ (c .before .before .before .before .before .before .before .before .before .pre .0) _ (c .before .before .before .before .loop-test .taken)
 
--- src/links.rt:43:12
 stray-requires-2 : tie.Need-stray-requires-2 Inv-loop μ-loop
 stray-requires-2 c κs = search needs
 
--- src/links.rt:44:13
 returns-2 : tie.Need-returns-2 Inv-loop μ-loop
 unfolding badLinks
 returns-2 c =
@@ -75,15 +60,12 @@ returns-2 c =
     let e : stray (s .args .table .now) _ ≡ true = stray-by _ _ _ (s .pre .0) _ (s .pre .1) _ _ _ _ (c .if2 .taken) (c .before .stray2 .ensures) (c .before .before .right .ensures .0) in
     sym (scan-hit _ _ _ (s .pre .0) (strayed (s .args .table .now)) _ (c .before .before .before .before .before .before .before .loop-test .taken) (rw (e, or-true)))
 
--- src/links.rt:46:9
 add-i : tie.Need-add-i Inv-loop μ-loop
 add-i c = search needs
 
--- src/links.rt:38:5
 loop-less : tie.Need-loop-less Inv-loop μ-loop
 loop-less c = search needs
 
--- src/links.rt:38:5
 loop-again : tie.Need-loop-again Inv-loop μ-loop
 loop-again c =
     let s = c .before .before .before .before .before .before .before .before .before .before .before .before in
@@ -92,7 +74,6 @@ loop-again c =
     let e : stray t _ ≡ false = stray-by _ _ _ (s .pre .0) _ (s .pre .1) _ _ _ _ (c .if2 .left) (c .before .stray2 .ensures) (c .before .before .right .ensures .0) in
     (omega arith, below-more _ _ (c .before .before .before .before .before .before .before .before .loop .inv .1) (rw (d, e)))
 
--- src/links.rt:32:1
 returns-3 : tie.Need-returns-3 Inv-loop μ-loop
 unfolding badLinks
 returns-3 c =

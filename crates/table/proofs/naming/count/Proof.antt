@@ -1,20 +1,14 @@
 -- `count` leaves how often each record is named. The loop keeps the counts of the links passed.
-use mathlib.Core.Path.{_≡_}
 use mathlib.Core.List.{[], _∷_, _++_}
-use Prim.Native.Nat.{ℕ, _-_, _≤_, _<_}
+use Prim.Native.Nat.{_-_, _≤_}
 use native.Mathlib.Omega.{arith}
-use lib.ListN.{length, getD, take}
+use lib.ListN.{take}
 use Rattle.table.specs.Table.{left, right}
 use Rattle.table.specs.Refusal.{links}
 use Rattle.table.proofs.Scan.{listed-inside}
 use Rattle.table.proofs.Tally.{Counts, counts-none, counts-few, counts-few-more, counts-more, link-few, links-few, links-more, counted-all}
 use Rattle.table.proofs.naming.count.Statement.{statement}
 use Rattle.table.proofs.naming.count.Tie as tie
-use Rattle.table.proofs.naming.count.Reads as reads
-use Rattle.table.proofs.naming.count.Lts as lts
-use Rattle.table.proofs.naming.tick.Reads as tick-reads
-use Rattle.table.proofs.words.left.Reads as left-reads
-use Rattle.table.proofs.words.right.Reads as right-reads
 
 abbrev Inv-loop : tie.InvT-loop
 Inv-loop table chain nodes tally₀ i₀ tally i = (i ≤ nodes) × Counts (links table (take i chain)) tally
@@ -22,28 +16,22 @@ Inv-loop table chain nodes tally₀ i₀ tally i = (i ≤ nodes) × Counts (link
 abbrev μ-loop : tie.MeasureT-loop
 μ-loop table chain nodes tally₀ i₀ tally i = nodes - i
 
--- src/naming.rt:29:5
 loop-holds : tie.Need-loop-holds Inv-loop μ-loop
 unfolding links
 loop-holds c = (omega arith, counts-none _ (c .before .before .before .pre .1 .1))
 
--- src/naming.rt:30:17
 mul-k : tie.Need-mul-k Inv-loop μ-loop
 mul-k c = omega arith
 
--- src/naming.rt:30:17
 shared-slice-read-k : tie.Need-shared-slice-read-k Inv-loop μ-loop
 shared-slice-read-k c = omega arith
 
--- src/naming.rt:30:17
 cast-k : tie.Need-cast-k Inv-loop μ-loop
 cast-k c = omega (arith, c .shared-slice-known3 .given (c .before .before .loop .i))
 
--- src/naming.rt:31:21
 left-requires : tie.Need-left-requires Inv-loop μ-loop
 left-requires c κs = listed-inside _ _ _ (c .before .before .before .before .before .before .before .pre .0) _ (c .before .before .loop-test .taken)
 
--- src/naming.rt:31:9
 tick-requires : tie.Need-tick-requires Inv-loop μ-loop
 tick-requires c κs =
     let l = c .before .before .before .before in
@@ -59,13 +47,11 @@ ticked c =
     counts-more _ _ _ _ (l .loop .inv .1)
     (link-few _ _ _ (p .0) (p .1 .0) _ left _ (c .before .before .before .before .loop-test .taken) (c .before .left .ensures .0)) (c .tick .ensures)
 
--- src/naming.rt:32:21
 right-requires : tie.Need-right-requires Inv-loop μ-loop
 right-requires c κs =
     let l = c .before .before .before .before .before .before .before .before in
     listed-inside _ _ _ (l .before .before .before .before .pre .0) _ (c .before .before .before .before .before .before .before .loop-test .taken)
 
--- src/naming.rt:32:9
 tick-requires-2 : tie.Need-tick-requires-2 Inv-loop μ-loop
 tick-requires-2 c κs =
     let k = c .before .before .before .before in
@@ -75,15 +61,12 @@ tick-requires-2 c κs =
     let a = l .before .before .before .before .args in
     omega (arith, ticked k .long, link-few _ _ _ (p .0) (p .1 .0) _ right _ h (c .right .ensures .0), links-few _ _ _ (p .0) _ h, counts-few-more (links (a .table .now) (take (l .loop .i) (a .chain .now))) _ _ (c .right .result) (ticked k))
 
--- src/naming.rt:33:9
 add-i : tie.Need-add-i Inv-loop μ-loop
 add-i c = omega arith
 
--- src/naming.rt:29:5
 loop-less : tie.Need-loop-less Inv-loop μ-loop
 loop-less c = omega arith
 
--- src/naming.rt:29:5
 loop-again : tie.Need-loop-again Inv-loop μ-loop
 loop-again c =
     let q = c .before .before in
@@ -96,11 +79,9 @@ loop-again c =
           (counts-more _ _ _ _ (ticked k) (link-few _ _ _ (p .0) (p .1 .0) _ right _ h (q .before .right .ensures .0)) (q .tick2 .ensures)),
     )
 
--- src/naming.rt:22:1
 same-length : tie.Need-same-length Inv-loop μ-loop
 same-length c = omega arith
 
--- src/naming.rt:22:1
 returns : tie.Need-returns Inv-loop μ-loop
 returns c = counted-all _ _ _ (c .before .before .before .before .before .pre .0) _ (c .before .loop .i) (omega arith) (c .before .loop .inv .1)
 

@@ -1,6 +1,6 @@
 -- `measure` fills the sizes. The loop keeps those of the nodes passed.
-use mathlib.Core.Path.{_≡_, refl}
-use Prim.Native.Nat.{ℕ, _+_, _-_, _≤_, _<_}
+use mathlib.Core.Path.{_≡_}
+use Prim.Native.Nat.{_+_, _-_, _≤_, _<_}
 use native.Mathlib.Omega.{arith}
 use lib.ListN.{getD, take, drop}
 use Rattle.table.specs.Table.{left, right}
@@ -9,10 +9,6 @@ use Rattle.table.specs.Steps.{Filled}
 use Rattle.table.proofs.Sizes.{fill-back, fill-none, fill-inside, fill-few, fill-sum, fill-step}
 use Rattle.table.proofs.reach.measure.Statement.{statement}
 use Rattle.table.proofs.reach.measure.Tie as tie
-use Rattle.table.proofs.reach.measure.Reads as reads
-use Rattle.table.proofs.reach.measure.Lts as lts
-use Rattle.table.proofs.words.left.Reads as left-reads
-use Rattle.table.proofs.words.right.Reads as right-reads
 
 abbrev Inv-loop : tie.InvT-loop
 Inv-loop table order nodes sizes₀ i₀ sizes i = (i ≤ nodes) × Filled table (drop i (take nodes order)) sizes
@@ -20,27 +16,21 @@ Inv-loop table order nodes sizes₀ i₀ sizes i = (i ≤ nodes) × Filled table
 abbrev μ-loop : tie.MeasureT-loop
 μ-loop table order nodes sizes₀ i₀ sizes i = i
 
--- src/reach.rt:53:5
 loop-holds : tie.Need-loop-holds Inv-loop μ-loop
 loop-holds c = let s = c .before .before .before in (omega arith, fill-none _ _ _ (s .pre .0) (s .pre .1 .0 .0) (s .pre .1 .0 .1) _ (s .pre .1 .1))
 
--- src/reach.rt:54:9
 sub-i : tie.Need-sub-i Inv-loop μ-loop
 sub-i c = omega arith
 
--- src/reach.rt:55:17
 mul-k : tie.Need-mul-k Inv-loop μ-loop
 mul-k c = omega arith
 
--- src/reach.rt:55:17
 shared-slice-read-k : tie.Need-shared-slice-read-k Inv-loop μ-loop
 shared-slice-read-k c = omega arith
 
--- src/reach.rt:55:17
 cast-k : tie.Need-cast-k Inv-loop μ-loop
 cast-k c = omega (arith, c .shared-slice-known3 .given (c .before .before .loop .i - 1))
 
--- src/reach.rt:56:23
 left-requires : tie.Need-left-requires Inv-loop μ-loop
 left-requires c κs =
     let s = c .before .before .before .before .before .before in
@@ -56,33 +46,26 @@ few-right c =
     let s = c .before .before .before .before .before .before .before .before .before in
     fill-few _ _ _ (s .pre .0) (s .pre .1 .0 .0) (s .pre .1 .0 .1) _ (omega arith) right _ (c .right .ensures .0)
 
--- src/reach.rt:56:17
 mul-l : tie.Need-mul-l Inv-loop μ-loop
 mul-l c = omega (arith, few-left c)
 
--- src/reach.rt:56:17
 slice-read-l : tie.Need-slice-read-l Inv-loop μ-loop
 slice-read-l c = omega (arith, few-left (c .before))
 
--- src/reach.rt:56:17
 cast-l : tie.Need-cast-l Inv-loop μ-loop
 cast-l c = omega (arith, c .slice-known2 .given (c .before .left .result))
 
--- src/reach.rt:57:23
 right-requires : tie.Need-right-requires Inv-loop μ-loop
 right-requires c κs =
     let s = c .before .before .before .before .before .before .before .before in
     fill-inside _ _ _ (s .pre .0) (s .pre .1 .0 .0) (s .pre .1 .0 .1) (c .before .before .before .before .loop .i - 1) (omega arith) .0
 
--- src/reach.rt:57:17
 mul-r : tie.Need-mul-r Inv-loop μ-loop
 mul-r c = omega (arith, few-right c)
 
--- src/reach.rt:57:17
 slice-read-r : tie.Need-slice-read-r Inv-loop μ-loop
 slice-read-r c = omega (arith, few-right (c .before))
 
--- src/reach.rt:57:17
 cast-r : tie.Need-cast-r Inv-loop μ-loop
 cast-r c = omega (arith, c .slice-known3 .given (c .before .right .result))
 
@@ -104,31 +87,24 @@ stored c =
     let s = l .before .before .before .before in
     omega (arith, fill-inside _ _ _ (s .pre .0) (s .pre .1 .0 .0) (s .pre .1 .0 .1) (l .loop .i - 1) (omega arith))
 
--- src/reach.rt:58:21
 add-sizes : tie.Need-add-sizes Inv-loop μ-loop
 add-sizes c = omega (arith, summed c)
 
--- src/reach.rt:58:21
 add-sizes-2 : tie.Need-add-sizes-2 Inv-loop μ-loop
 add-sizes-2 c = omega (arith, summed c)
 
--- src/reach.rt:58:20
 cast-sizes : tie.Need-cast-sizes Inv-loop μ-loop
 cast-sizes c = omega (arith, summed c)
 
--- src/reach.rt:58:9
 mul-sizes : tie.Need-mul-sizes Inv-loop μ-loop
 mul-sizes c = omega (arith, stored c)
 
--- src/reach.rt:58:9
 slice-write-sizes : tie.Need-slice-write-sizes Inv-loop μ-loop
 slice-write-sizes c = omega (arith, stored c)
 
--- src/reach.rt:53:5
 loop-less : tie.Need-loop-less Inv-loop μ-loop
 loop-less c = omega arith
 
--- src/reach.rt:53:5
 loop-again : tie.Need-loop-again Inv-loop μ-loop
 loop-again c =
     let l = c .before .before .before .before .before .before in
@@ -137,11 +113,9 @@ loop-again c =
       fill-step _ _ _ (s .pre .0) (s .pre .1 .0 .0) (s .pre .1 .0 .1) _ (omega arith) _ (fill-back _ _ _ _ (c .before .before .before .before .before .loop-test .taken) (l .loop .inv .1)) _ (summed c .0),
     )
 
--- src/reach.rt:46:1
 same-length : tie.Need-same-length Inv-loop μ-loop
 same-length c = omega arith
 
--- src/reach.rt:46:1
 returns : tie.Need-returns Inv-loop μ-loop
 returns c = let e : c .before .loop .i ≡ 0 = omega arith in rw e at (c .before .loop .inv .1)
 

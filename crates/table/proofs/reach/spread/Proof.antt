@@ -1,16 +1,10 @@
 -- `spread` lists the nodes that are reached. The loop keeps `Spreading`.
 use mathlib.Core.Path.{refl}
-use Prim.Native.Nat.{_-_, _≤_}
+use Prim.Native.Nat.{_-_}
 use native.Mathlib.Omega.{arith}
-use lib.ListN.{length, take}
 use Rattle.table.proofs.Order.{Spreading, spread-start, spread-inside, spread-room, spread-step, spread-end}
 use Rattle.table.proofs.reach.spread.Statement.{statement}
 use Rattle.table.proofs.reach.spread.Tie as tie
-use Rattle.table.proofs.reach.spread.Reads as reads
-use Rattle.table.proofs.reach.spread.Lts as lts
-use Rattle.table.proofs.reach.push.Reads as push-reads
-use Rattle.table.proofs.words.left.Reads as left-reads
-use Rattle.table.proofs.words.right.Reads as right-reads
 
 abbrev Inv-loop : tie.InvT-loop
 Inv-loop table order₀ head₀ tail₀ order head tail = Spreading table order head tail
@@ -18,54 +12,43 @@ Inv-loop table order₀ head₀ tail₀ order head tail = Spreading table order 
 abbrev μ-loop : tie.MeasureT-loop
 μ-loop table order₀ head₀ tail₀ order head tail = 4097 - head
 
--- src/reach.rt:33:16
 left-requires : tie.Need-left-requires Inv-loop μ-loop
 left-requires c κs = omega arith
 
--- src/reach.rt:33:16
 cast-order : tie.Need-cast-order Inv-loop μ-loop
 cast-order c = omega arith
 
--- src/reach.rt:33:5
 slice-write-order : tie.Need-slice-write-order Inv-loop μ-loop
 slice-write-order c = omega arith
 
--- src/reach.rt:36:5
 loop-holds : tie.Need-loop-holds Inv-loop μ-loop
 loop-holds c = let s = c .before .before .before in spread-start _ (s .args .order .now) (s .pre .0) _ (s .pre .1) (c .left .ensures .0)
 
--- src/reach.rt:37:17
 mul-k : tie.Need-mul-k Inv-loop μ-loop
 mul-k c = omega arith
 
--- src/reach.rt:37:17
 slice-read-k : tie.Need-slice-read-k Inv-loop μ-loop
 slice-read-k c = omega arith
 
--- src/reach.rt:37:17
 cast-k : tie.Need-cast-k Inv-loop μ-loop
 cast-k c = omega (arith, c .slice-known2 .given (c .before .before .loop .head))
 
--- src/reach.rt:38:34
 left-requires-2 : tie.Need-left-requires-2 Inv-loop μ-loop
 left-requires-2 c κs =
     let l = c .before .before .before in
     spread-inside _ _ (l .before .before .before .before .pre .0) _ _ (l .loop .inv) (c .before .before .loop-test .taken)
 
--- src/reach.rt:38:9
 push-requires : tie.Need-push-requires Inv-loop μ-loop
 push-requires c κs =
     let l = c .before .before .before .before in
     let m = spread-room _ _ (l .before .before .before .before .pre .0) _ _ (l .loop .inv) (c .before .before .before .loop-test .taken) _ _ (c .left2 .ensures .0) refl in
     (omega (arith, m, l .loop .inv .long), c .left2 .ensures .1)
 
--- src/reach.rt:39:34
 right-requires : tie.Need-right-requires Inv-loop μ-loop
 right-requires c κs =
     let l = c .before .before .before .before .before .before .before .before in
     spread-inside _ _ (l .before .before .before .before .pre .0) _ _ (l .loop .inv) (c .before .before .before .before .before .before .before .loop-test .taken)
 
--- src/reach.rt:39:9
 push-requires-2 : tie.Need-push-requires-2 Inv-loop μ-loop
 push-requires-2 c κs =
     let q = c .before .before .before .before in
@@ -73,15 +56,12 @@ push-requires-2 c κs =
     let m = spread-room _ _ (l .before .before .before .before .pre .0) _ _ (l .loop .inv) (q .before .before .before .before .loop-test .taken) _ _ (q .before .left2 .ensures .0) (c .right .ensures .0) in
     (omega (arith, m, l .loop .inv .long, q .push .ensures .0, q .push .kept .0), c .right .ensures .1)
 
--- src/reach.rt:40:9
 add-head : tie.Need-add-head Inv-loop μ-loop
 add-head c = omega arith
 
--- src/reach.rt:36:5
 loop-less : tie.Need-loop-less Inv-loop μ-loop
 loop-less c = omega arith
 
--- src/reach.rt:36:5
 loop-again : tie.Need-loop-again Inv-loop μ-loop
 loop-again c =
     let n = c .before .before in
@@ -90,11 +70,9 @@ loop-again c =
     spread-step _ _ (l .before .before .before .before .pre .0) _ _ (l .loop .inv) (q .before .before .before .before .loop-test .taken) _ _ (q .before .left2 .ensures .0) (n .before .right .ensures .0)
     _ _ _ _ (q .push .ensures .0) (q .push .ensures .1) (n .push2 .ensures .0) (n .push2 .ensures .1) (omega (arith, l .loop .inv .long, q .push .kept .0, n .push2 .kept .0))
 
--- src/reach.rt:28:1
 same-length : tie.Need-same-length Inv-loop μ-loop
 same-length c = omega arith
 
--- src/reach.rt:28:1
 returns : tie.Need-returns Inv-loop μ-loop
 returns c = spread-end _ _ _ _ (c .before .loop .inv) (c .loop-test .left)
 

@@ -1,15 +1,10 @@
 -- `walk` answers cause 3, lists the chain and marks its records. The loop keeps `Walk`.
 use Prim.Native.Nat.{_/_, _-_}
 use native.Mathlib.Omega.{arith}
-use borrow.Author.Needs.{needs}
 use lib.ListN.{length}
 use Rattle.table.proofs.Walking.{Walk, walk-start, walk-end, walk-beyond, walk-twice, walk-step}
 use Rattle.table.proofs.walk.walk.Statement.{statement}
 use Rattle.table.proofs.walk.walk.Tie as tie
-use Rattle.table.proofs.walk.walk.Reads as reads
-use Rattle.table.proofs.walk.walk.Lts as lts
-use Rattle.table.proofs.refused.Reads as refused-reads
-use Rattle.table.proofs.words.next.Reads as next-reads
 
 abbrev Inv-loop : tie.InvT-loop
 Inv-loop table chain₀ mark₀ records at₀ nodes₀ chain mark at nodes = Walk table nodes at chain mark
@@ -17,105 +12,81 @@ Inv-loop table chain₀ mark₀ records at₀ nodes₀ chain mark at nodes = Wal
 abbrev μ-loop : tie.MeasureT-loop
 μ-loop table chain₀ mark₀ records at₀ nodes₀ chain mark at nodes = length table / 8 - nodes
 
--- src/walk.rt:18:9
 next-requires : tie.Need-next-requires Inv-loop μ-loop
 next-requires c κs = omega arith
 
--- src/walk.rt:20:5
 loop-holds : tie.Need-loop-holds Inv-loop μ-loop
 loop-holds c =
     let s = c .before .before .before .before in
     walk-start _ _ _ _ (s .pre .0) (s .pre .1 .0) (s .pre .1 .1) (c .next .ensures .0) (c .next .ensures .1)
 
--- src/walk.rt:22:13
 refused-requires : tie.Need-refused-requires Inv-loop μ-loop
 refused-requires c κs = tt
 
--- src/walk.rt:22:13
 same-length : tie.Need-same-length Inv-loop μ-loop
 same-length c = omega arith
 
--- src/walk.rt:22:13
 same-length-2 : tie.Need-same-length-2 Inv-loop μ-loop
 same-length-2 c = omega arith
 
--- src/walk.rt:22:13
 returns : tie.Need-returns Inv-loop μ-loop
-returns c = rw (c .refused .ensures) (walk-beyond _ _ _ _ _ (c .before .before .before .loop .inv) (c .before .before .loop-test .taken) (c .before .if1 .taken))
+returns c = rw (c .refused .ensures) (walk-beyond _ _ _ _ _ (c .before .before .before .loop .inv) (c .before .before .loop-test .taken) (omega arith))
 
--- src/walk.rt:24:12
 mul-if2 : tie.Need-mul-if2 Inv-loop μ-loop
 mul-if2 c = omega arith
 
--- src/walk.rt:24:12
 slice-read-if2 : tie.Need-slice-read-if2 Inv-loop μ-loop
 slice-read-if2 c = omega arith
 
--- src/walk.rt:25:13
 refused-requires-2 : tie.Need-refused-requires-2 Inv-loop μ-loop
 refused-requires-2 c κs = tt
 
--- src/walk.rt:25:13
 same-length-3 : tie.Need-same-length-3 Inv-loop μ-loop
 same-length-3 c = omega arith
 
--- src/walk.rt:25:13
 same-length-4 : tie.Need-same-length-4 Inv-loop μ-loop
 same-length-4 c = omega arith
 
--- src/walk.rt:25:13
 returns-2 : tie.Need-returns-2 Inv-loop μ-loop
 returns-2 c =
     rw (c .refused2 .ensures) (walk-twice _ _ _ _ _ (c .before .before .before .before .before .loop .inv) (c .before .before .before .before .loop-test .taken) (c .before .if2 .taken))
 
--- src/walk.rt:27:9
 mul-mark : tie.Need-mul-mark Inv-loop μ-loop
 mul-mark c = omega arith
 
--- src/walk.rt:27:9
 slice-write-mark : tie.Need-slice-write-mark Inv-loop μ-loop
 slice-write-mark c = omega arith
 
--- src/walk.rt:28:24
 cast-chain : tie.Need-cast-chain Inv-loop μ-loop
 cast-chain c = omega arith
 
--- src/walk.rt:28:9
 mul-chain : tie.Need-mul-chain Inv-loop μ-loop
 mul-chain c = omega arith
 
--- src/walk.rt:28:9
 slice-write-chain : tie.Need-slice-write-chain Inv-loop μ-loop
 slice-write-chain c = omega arith
 
--- src/walk.rt:29:9
 add-nodes : tie.Need-add-nodes Inv-loop μ-loop
 add-nodes c = omega arith
 
--- src/walk.rt:30:9
 next-requires-2 : tie.Need-next-requires-2 Inv-loop μ-loop
 next-requires-2 c κs = omega arith
 
--- src/walk.rt:20:5
 loop-less : tie.Need-loop-less Inv-loop μ-loop
 loop-less c = omega arith
 
--- src/walk.rt:20:5
 loop-again : tie.Need-loop-again Inv-loop μ-loop
 loop-again c =
     let l = c .before .before .before .before .before in
     let s = l .before .before .before .before .before .pre .0 in
     rw (c .next2 .ensures .0) (walk-step _ _ _ _ _ (l .loop .inv) (c .before .before .before .before .loop-test .taken) s (omega arith) (omega arith) (omega arith))
 
--- src/walk.rt:11:1
 same-length-5 : tie.Need-same-length-5 Inv-loop μ-loop
 same-length-5 c = omega arith
 
--- src/walk.rt:11:1
 same-length-6 : tie.Need-same-length-6 Inv-loop μ-loop
 same-length-6 c = omega arith
 
--- src/walk.rt:11:1
 returns-3 : tie.Need-returns-3 Inv-loop μ-loop
 returns-3 c = walk-end _ _ _ _ _ (c .before .loop .inv) (c .before .before .before .before .before .before .pre .0) (c .loop-test .left)
 

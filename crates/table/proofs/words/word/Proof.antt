@@ -1,52 +1,39 @@
+-- `word` reads a word of a record, low byte first.
 use borrow.Author.Needs.{needs}
 use Rattle.table.specs.Table.{word as wordOf}
 use Rattle.table.proofs.words.word.Statement.{statement}
 use Rattle.table.proofs.words.word.Tie as tie
-use Rattle.table.proofs.words.word.Reads as reads
-use Rattle.table.proofs.words.word.Lts as lts
-use Rattle.table.proofs.words.wide.Reads as wide-reads
 
--- src/words.rt:18:14
 mul-at : tie.Need-mul-at
 mul-at c = search needs
 
--- src/words.rt:18:22
 mul-at-2 : tie.Need-mul-at-2
 mul-at-2 c = search needs
 
--- src/words.rt:18:14
 add-at : tie.Need-add-at
 add-at c = search needs
 
--- src/words.rt:19:10
 shared-slice-read-wide : tie.Need-shared-slice-read-wide
 shared-slice-read-wide c = search needs
 
--- src/words.rt:19:5
 wide-requires : tie.Need-wide-requires
 wide-requires c κs = search needs
 
--- src/words.rt:19:40
 add-wide : tie.Need-add-wide
 add-wide c = search needs
 
--- src/words.rt:19:34
 shared-slice-read-wide-2 : tie.Need-shared-slice-read-wide-2
 shared-slice-read-wide-2 c = search needs
 
--- src/words.rt:19:29
 wide-requires-2 : tie.Need-wide-requires-2
 wide-requires-2 c κs = search needs
 
--- src/words.rt:19:23
 mul-result : tie.Need-mul-result
 mul-result c = search needs
 
--- src/words.rt:19:5
 add-result : tie.Need-add-result
 add-result c = search needs
 
--- src/words.rt:14:1
 returns : tie.Need-returns
 unfolding wordOf
 returns c = search needs

@@ -61,7 +61,13 @@ loop-less : tie.Need-loop-less Inv-loop μ-loop
 loop-less c = search needs
 
 loop-again : tie.Need-loop-again Inv-loop μ-loop
-loop-again c = (search needs, simp length-set (c .before .before .before .before .loop .inv .1), stored _ (c .before .before .before .before .loop .out) (c .before .before .before .before .loop .i) _ (omega arith) (c .before .before .before .before .loop .inv .2) (ap (λ (k : ℕ). getD (c .before .before .before .before .before .before .before .before .args .placements .now) (2 * k + c .before .before .before .before .before .before .before .before .args .part) 0) (c .before .wide .ensures)))
+loop-again c =
+    let s = c .before .before .before .before .before .before .before .before in
+    let l = c .before .before .before .before .loop in (
+      search needs,
+      simp length-set (l .inv .1),
+      stored _ (l .out) (l .i) _ (omega arith) (l .inv .2) (ap (λ (k : ℕ). getD (s .args .placements .now) (2 * k + s .args .part) 0) (c .before .wide .ensures)),
+    )
 
 same-length : tie.Need-same-length Inv-loop μ-loop
 same-length c = search needs

@@ -1,9 +1,4 @@
 -- The points are gathered, and then searched. Rests on Search.
-use mathlib.Core.Path.{_≡_, sym, _∙_}
-use mathlib.Core.Logic.{_↔_, Iff·trans}
-use Prim.Native.Nat.{ℕ, _<_}
-use native.Mathlib.Omega.{arith}
-use Rattle.verdict.specs.Steps.{pointAt, nodeAt}
 use Rattle.verdict.proofs.Search.{same-gathered}
 use borrow.Author.Needs.{needs}
 use Rattle.verdict.proofs.points.same_place.Statement.{statement}
@@ -31,7 +26,7 @@ same-point-requires : tie.Need-same-point-requires
 same-point-requires c κs = search needs
 
 returns : tie.Need-returns
-returns c = Iff·trans (c .same-point .ensures) (same-gathered (c .before .before .before .before .before .before .before .gather .ensures) (c .before .before .before .before .gather2 .ensures))
+returns c = same-gathered (c .before .before .before .before .before .before .before .gather .ensures) (c .before .before .before .before .gather2 .ensures) (c .same-point .result) (c .same-point .ensures)
 
 pub same-place-spec : {M : Type 1} → statement M
 same-place-spec =

@@ -12,7 +12,7 @@ shared-slice-read-top : tie.Need-shared-slice-read-top
 shared-slice-read-top c = search needs
 
 returns : tie.Need-returns
-returns c = apart-below (c .before .before .before .before .before .before .before .pre .0) (c .before .before .before .before .before .before .before .pre .1 .down (c .before .before .before .before .before .before .before .args .i) (omega arith)) (c .if1 .taken)
+returns c = let s = c .before .before .before .before .before .before .before in apart-below (s .pre .0) (s .pre .1 .down (s .args .i) (omega arith)) (c .if1 .taken)
 
 mul-bottom : tie.Need-mul-bottom
 mul-bottom c = search needs
@@ -21,7 +21,7 @@ shared-slice-read-bottom : tie.Need-shared-slice-read-bottom
 shared-slice-read-bottom c = search needs
 
 returns-2 : tie.Need-returns-2
-returns-2 c = apart-above (c .before .before .before .before .before .before .before .before .before .before .pre .0) (c .before .before .before .before .before .before .before .before .before .before .pre .1 .down (c .before .before .before .before .before .before .before .before .before .before .args .i) (omega arith)) (c .if2 .taken)
+returns-2 c = let s = c .before .before .before .before .before .before .before .before .before .before in apart-above (s .pre .0) (s .pre .1 .down (s .args .i) (omega arith)) (c .if2 .taken)
 
 mul-t12 : tie.Need-mul-t12
 mul-t12 c = search needs
@@ -36,7 +36,7 @@ shared-slice-read-t14-2 : tie.Need-shared-slice-read-t14-2
 shared-slice-read-t14-2 c = search needs
 
 clash-requires : tie.Need-clash-requires
-clash-requires c κs = (down-differ (c .before .before .before .before .before .before .before .before .before .before .before .before .pre .0), down-differ (c .before .before .before .before .before .before .before .before .before .before .before .before .pre .1 .down (c .before .before .before .before .before .before .before .before .before .before .before .before .args .i) (omega arith)))
+clash-requires c κs = let s = c .before .before .before .before .before .before .before .before .before .before .before .before in (down-differ (s .pre .0), down-differ (s .pre .1 .down (s .args .i) (omega arith)))
 
 returns-3 : tie.Need-returns-3
 returns-3 c = search needs

@@ -45,7 +45,7 @@ loop-holds : tie.Need-loop-holds Inv-loop μ-loop
 loop-holds c = search needs
 
 clash-at-requires : tie.Need-clash-at-requires Inv-loop μ-loop
-clash-at-requires c κs = (c .before .before .before .before .before .before .before .before .before .before .pre .down (c .before .before .before .before .before .before .before .before .before .before .args .j) (omega arith), fewer (omega arith) (c .before .before .before .before .before .before .before .before .before .before .pre))
+clash-at-requires c κs = let s = c .before .before .before .before .before .before .before .before .before .before in (s .pre .down (s .args .j) (omega arith), fewer (omega arith) (s .pre))
 
 returns : tie.Need-returns Inv-loop μ-loop
 returns c = found (c .before .before .before .loop .i) (c .before .before .loop-test .taken) (holds (c .if1 .taken) (c .before .clash-at .ensures))

@@ -1,5 +1,4 @@
 -- The ends of the lines are gathered, and then searched. Rests on Search.
-use mathlib.Core.Logic.{Iff·trans}
 use Rattle.verdict.proofs.Search.{clash-gathered, down-gathered}
 use borrow.Author.Needs.{needs}
 use Rattle.verdict.proofs.touch.touches.Statement.{statement}
@@ -42,10 +41,21 @@ slice-aggregate-clash-any-4 : tie.Need-slice-aggregate-clash-any-4
 slice-aggregate-clash-any-4 c = search needs
 
 clash-any-requires : tie.Need-clash-any-requires
-clash-any-requires c κs = record { starts-long = search needs; tops-long = search needs; ends-long = search needs; bottoms-long = search needs; down = down-gathered (c .before .before .before .before .before .before .before .before .before .before .before .gather2 .ensures) (c .before .before .before .before .before .gather4 .ensures) (c .before .before .before .before .before .before .before .before .before .before .before .before .before .before .before .before .before .before .before .pre .1) }
+clash-any-requires c κs =
+    record {
+      starts-long = search needs;
+      tops-long = search needs;
+      ends-long = search needs;
+      bottoms-long = search needs;
+      down = down-gathered (c .before .before .before .before .before .before .before .before .before .before .before .gather2 .ensures) (c .before .before .before .before .before .gather4 .ensures) (c .before .before .before .before .before .before .before .before .before .before .before .before .before .before .before .before .before .before .before .pre .1);
+    }
 
 returns : tie.Need-returns
-returns c = Iff·trans (c .clash-any .ensures) (clash-gathered (c .before .before .before .before .before .before .before .before .before .before .before .before .before .before .before .gather .ensures) (c .before .before .before .before .before .before .before .before .before .before .before .before .gather2 .ensures) (c .before .before .before .before .before .before .before .before .before .gather3 .ensures) (c .before .before .before .before .before .before .gather4 .ensures))
+returns c =
+    let d = c .before .before .before .before .before .before in
+    let b = d .before .before .before in
+    let a = b .before .before .before in
+    clash-gathered (a .before .before .before .gather .ensures) (a .gather2 .ensures) (b .gather3 .ensures) (d .gather4 .ensures) (c .clash-any .result) (c .clash-any .ensures)
 
 pub touches-spec : {M : Type 1} → statement M
 touches-spec =

@@ -1,0 +1,2 @@
+-- What the library's functions answer to other languages.
+pub mod Packed

@@ -1,0 +1,79 @@
+-- `step` is safe: the table and the placements in use lie within their buffers.
+use borrow.Author.Needs.{needs}
+use native.Mathlib.Omega.{arith}
+use lib.ListN.{length-take}
+use Rattle.trials.proofs.step.Statement.{statement}
+use Rattle.trials.proofs.step.Tie as tie
+
+next-head-requires : tie.Need-next-head-requires
+next-head-requires c κs = search needs
+
+returns : tie.Need-returns
+returns c = search needs
+
+table-bytes-requires : tie.Need-table-bytes-requires
+table-bytes-requires c κs = search needs
+
+same-length : tie.Need-same-length
+same-length c = search needs
+
+returns-2 : tie.Need-returns-2
+returns-2 c = search needs
+
+give-requires : tie.Need-give-requires
+give-requires c κs = search needs
+
+same-length-2 : tie.Need-same-length-2
+same-length-2 c = search needs
+
+returns-3 : tie.Need-returns-3
+returns-3 c = search needs
+
+slice-reshare-prefix-ask : tie.Need-slice-reshare-prefix-ask
+slice-reshare-prefix-ask c = search needs
+
+slice-aggregate-ask : tie.Need-slice-aggregate-ask
+slice-aggregate-ask c = simp length-take (omega arith)
+
+slice-relend-prefix-ask : tie.Need-slice-relend-prefix-ask
+slice-relend-prefix-ask c = search needs
+
+slice-aggregate-ask-2 : tie.Need-slice-aggregate-ask-2
+slice-aggregate-ask-2 c = simp length-take (omega arith)
+
+ask-requires : tie.Need-ask-requires
+ask-requires c κs = search needs
+
+same-length-3 : tie.Need-same-length-3
+same-length-3 c = search needs
+
+same-length-4 : tie.Need-same-length-4
+same-length-4 c = search needs
+
+same-length-5 : tie.Need-same-length-5
+same-length-5 c = search needs
+
+returns-4 : tie.Need-returns-4
+returns-4 c = search needs
+
+pub step-spec : {M : Type 1} → statement M
+step-spec =
+    tie.close
+    (tie.spec
+    next-head-requires
+    returns
+    table-bytes-requires
+    same-length
+    returns-2
+    give-requires
+    same-length-2
+    returns-3
+    slice-reshare-prefix-ask
+    slice-aggregate-ask
+    slice-relend-prefix-ask
+    slice-aggregate-ask-2
+    ask-requires
+    same-length-3
+    same-length-4
+    same-length-5
+    returns-4)

@@ -1,0 +1,188 @@
+// Runs the drawer, the check and the allowed width on the cases of standard input, and prints every answer.
+// What it must print is made by tests/make_trials.py from the reference program. Proved safe; what it prints is tested.
+//
+// A case is a head of four words (16 bits, low byte first) named kind, count, first, step, and what the kind says:
+//   1 table: count bytes follow, the table from here on
+//   2 numbers: count words follow, the placements from here on
+//   3 filled: count placements, the number at place i is (first + step * i) mod 65536
+//   4 changed: count pairs of words follow, a place and its new number
+//   5 draw: prints 'draw', the refusal, nodes, width and height, and a line of the placements afterwards: all of
+//     them up to 600, else 'sum' and the number s at the end of s = (65599 s + number + 1) mod 4294967291, from 0
+//   6 check: prints 'check' and the number
+//   7 width: prints 'width' and the allowed width of count + 2^16 first + 2^32 step
+// The cases end with the input, or with a head of any other kind.
+mod input;
+mod text;
+
+use crate::input::Head;
+use crate::input::changed;
+use crate::input::filled;
+use crate::input::listed;
+use crate::input::next_head;
+use crate::input::table_bytes;
+use crate::text::put;
+use crate::text::put_all;
+use crate::text::put_field;
+use crate::text::put_line;
+use crate::text::put_places;
+use crate::text::wide;
+use drawing::Drawn;
+use drawing::Plan;
+ghost use Prim.Native.Nat.{_<_, _≤_};
+ghost use lib.ListN.{length};
+
+// How many bytes the table has, how many placements there are, how much of the output waits, and whether cases are left.
+pub struct State {
+    pub bytes: usize,
+    pub places: usize,
+    pub used: usize,
+    pub more: bool,
+}
+
+fn put_plan(out: &mut [u8], used: usize, plan: Plan) -> usize
+    requires { ⌜ 0 < length (now out) ⌝ }
+{
+    let noded = put_field(out, used, wide(plan.nodes));
+    let widened = put_field(out, noded, wide(plan.width));
+    let at = put_field(out, widened, wide(plan.height));
+    put(out, at, b'\n')
+}
+
+fn put_drawn(out: &mut [u8], used: usize, drawn: Drawn) -> usize
+    requires { ⌜ 0 < length (now out) ⌝ }
+{
+    let named = put_all(out, used, b"draw");
+    let at = put_field(out, named, wide(drawn.refusal));
+    put_plan(out, at, drawn.plan)
+}
+
+fn run_draw(table: &[u8], places: &mut [u16], out: &mut [u8], used: usize) -> usize
+    requires { ⌜ 0 < length (now out) ⌝ }
+{
+    let drawn = drawing::draw(table, places);
+    let at = put_drawn(out, used, drawn);
+    put_places(out, at, places)
+}
+
+fn run_check(table: &[u8], places: &[u16], out: &mut [u8], used: usize) -> usize
+    requires { ⌜ 0 < length (now out) ⌝ }
+{
+    put_line(out, used, b"check", wide(verdict::check(table, places)))
+}
+
+fn run_width(h: Head, out: &mut [u8], used: usize) -> usize
+    requires { ⌜ 0 < length (now out) ⌝ }
+    requires { ⌜ h .count ≤ 65535 ⌝ }
+    requires { ⌜ h .first ≤ 65535 ⌝ }
+    requires { ⌜ h .step ≤ 65535 ⌝ }
+{
+    let n = h.count as u64 + 65536 * (h.first as u64) + 4294967296 * (h.step as u64);
+    put_line(out, used, b"width", width::allowed_width(n))
+}
+
+// A case that prints.
+fn ask(table: &[u8], places: &mut [u16], out: &mut [u8], used: usize, h: Head) -> usize
+    requires { ⌜ 0 < length (now out) ⌝ }
+    requires { ⌜ h .count ≤ 65535 ⌝ }
+    requires { ⌜ h .first ≤ 65535 ⌝ }
+    requires { ⌜ h .step ≤ 65535 ⌝ }
+{
+    if h.kind == 5 {
+        return run_draw(table, places, out, used);
+    }
+    if h.kind == 6 {
+        return run_check(table, places, out, used);
+    }
+    run_width(h, out, used)
+}
+
+// A case that gives the placements: how many there are.
+fn give(places: &mut [u16], before: usize, h: Head) -> usize
+    requires { ⌜ 65536 ≤ length (now places) ⌝ }
+    requires { ⌜ before ≤ length (now places) ⌝ }
+    requires { ⌜ h .count ≤ 65535 ⌝ }
+    requires { ⌜ h .first ≤ 65535 ⌝ }
+    requires { ⌜ h .step ≤ 65535 ⌝ }
+    ensures { λ r. ⌜ r ≤ length (now (places .entry)) ⌝ }
+{
+    if h.kind == 2 {
+        return listed(places, h.count);
+    }
+    if h.kind == 3 {
+        return filled(places, h.count, h.first, h.step);
+    }
+    changed(places, h.count);
+    before
+}
+
+fn step(table: &mut [u8], places: &mut [u16], out: &mut [u8], s: State) -> State
+    requires { ⌜ 65536 ≤ length (now table) ⌝ }
+    requires { ⌜ 65536 ≤ length (now places) ⌝ }
+    requires { ⌜ 0 < length (now out) ⌝ }
+    requires { ⌜ s .bytes ≤ length (now table) ⌝ }
+    requires { ⌜ s .places ≤ length (now places) ⌝ }
+    ensures { λ r. ⌜ r .bytes ≤ length (now (table .entry)) ⌝ }
+    ensures { λ r. ⌜ r .places ≤ length (now (places .entry)) ⌝ }
+{
+    let h = next_head();
+    if h.kind == 0 || 7 < h.kind {
+        return State {
+            bytes: s.bytes,
+            places: s.places,
+            used: s.used,
+            more: false,
+        };
+    }
+    if h.kind == 1 {
+        return State {
+            bytes: table_bytes(table, h.count),
+            places: s.places,
+            used: s.used,
+            more: true,
+        };
+    }
+    if h.kind < 5 {
+        return State {
+            bytes: s.bytes,
+            places: give(places, s.places, h),
+            used: s.used,
+            more: true,
+        };
+    }
+    let n = s.bytes;
+    let m = s.places;
+    let used = ask(&table[..n], &mut places[..m], out, s.used, h);
+    State {
+        bytes: n,
+        places: m,
+        used,
+        more: true,
+    }
+}
+
+// A proved loop has to end, and nothing says that the input does: it counts its turns down from a number that no run uses up.
+fn run(table: &mut [u8], places: &mut [u16], out: &mut [u8])
+    requires { ⌜ 65536 ≤ length (now table) ⌝ }
+    requires { ⌜ 65536 ≤ length (now places) ⌝ }
+    requires { ⌜ 0 < length (now out) ⌝ }
+{
+    let mut s = State {
+        bytes: 0,
+        places: 0,
+        used: 0,
+        more: true,
+    };
+    let mut turns = u64::MAX;
+    while 0 < turns && s.more {
+        s = step(table, places, out, s);
+        turns -= 1;
+    }
+    text::flush(out, s.used);
+}
+
+fn main() {
+    let mut table = [0u8; 65536];
+    let mut places = [0u16; 65536];
+    let mut out = [0u8; 65536];
+    run(&mut table, &mut places, &mut out);
+}

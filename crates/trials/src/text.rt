@@ -1,0 +1,107 @@
+// Text through one buffer, written out where it is full.
+ghost use Prim.Native.Nat.{_<_, _≤_};
+ghost use lib.ListN.{length};
+
+pub fn wide(x: u16) -> u64
+    ensures { λ r. ⌜ r ≤ 65535 ⌝ }
+{
+    x as u64
+}
+
+// A place for one more byte.
+fn room(out: &[u8], used: usize) -> usize
+    requires { ⌜ 0 < length (now out) ⌝ }
+    ensures { λ r. ⌜ r < length (now (out .entry)) ⌝ }
+{
+    if used < out.len() {
+        return used;
+    }
+    io::write_all(1, out);
+    0
+}
+
+pub fn put(out: &mut [u8], used: usize, byte: u8) -> usize
+    requires { ⌜ 0 < length (now out) ⌝ }
+{
+    let at = room(out, used);
+    out[at] = byte;
+    at + 1
+}
+
+pub fn put_all(out: &mut [u8], used: usize, bytes: &[u8]) -> usize
+    requires { ⌜ 0 < length (now out) ⌝ }
+{
+    let mut at = used;
+    let mut i = 0;
+    while i < bytes.len() {
+        at = put(out, at, bytes[i]);
+        i += 1;
+    }
+    at
+}
+
+// A space and a number.
+pub fn put_field(out: &mut [u8], used: usize, n: u64) -> usize
+    requires { ⌜ 0 < length (now out) ⌝ }
+{
+    let at = put(out, used, b' ');
+    let mut digits = [0u8; 20];
+    let k = io::decimal(n, &mut digits);
+    put_all(out, at, &digits[..k])
+}
+
+// A word, a number and the end of the line.
+pub fn put_line(out: &mut [u8], used: usize, name: &[u8], n: u64) -> usize
+    requires { ⌜ 0 < length (now out) ⌝ }
+{
+    let named = put_all(out, used, name);
+    let at = put_field(out, named, n);
+    put(out, at, b'\n')
+}
+
+fn put_numbers(out: &mut [u8], used: usize, numbers: &[u16]) -> usize
+    requires { ⌜ 0 < length (now out) ⌝ }
+{
+    let mut at = put_all(out, used, b"places");
+    let mut i = 0;
+    while i < numbers.len() {
+        at = put_field(out, at, wide(numbers[i]));
+        i += 1;
+    }
+    put(out, at, b'\n')
+}
+
+fn mixed(sum: u64, x: u16) -> u64
+    requires { ⌜ sum < 4294967291 ⌝ }
+    ensures { λ r. ⌜ r < 4294967291 ⌝ }
+{
+    (65599 * sum + wide(x) + 1) % 4294967291
+}
+
+fn sum_of(numbers: &[u16]) -> u64 {
+    let mut sum = 0;
+    let mut i = 0;
+    while i < numbers.len() {
+        sum = mixed(sum, numbers[i]);
+        i += 1;
+    }
+    sum
+}
+
+// The placements: all of them, or of many a sum.
+pub fn put_places(out: &mut [u8], used: usize, numbers: &[u16]) -> usize
+    requires { ⌜ 0 < length (now out) ⌝ }
+{
+    if 600 < numbers.len() {
+        return put_line(out, used, b"sum", sum_of(numbers));
+    }
+    put_numbers(out, used, numbers)
+}
+
+pub fn flush(out: &[u8], used: usize) {
+    if used < out.len() {
+        io::write_all(1, &out[..used]);
+    } else {
+        io::write_all(1, out);
+    }
+}

@@ -1,0 +1,46 @@
+/* Drawing an ordered binary tree on a grid, and checking such drawings.
+ *
+ * Link target/staticlib/libbt.a, which `rt staticlib bt` makes; of the C library it wants memset alone. All functions end, allocate nothing, keep nothing between
+ * calls, and may be called from several threads at once. Their stack was measured below 100 KB.
+ *
+ * A table is bytes in records of 8: four unsigned 16-bit words, low byte first: next, left, right, tag. Record 0 is the head: next names the first record of the
+ * chain, left the root, right and tag are 0. Left and right name children, 0 is none. At most 4,097 records. Placements are 16-bit numbers: record k has its column
+ * at 2k and its row at 2k + 1. Lengths count elements, not bytes.
+ *
+ * A pointer is never NULL, not even with the length 0; placements are aligned as uint16_t is, and table and placements do not overlap. */
+#ifndef BT_H
+#define BT_H
+
+#include <stddef.h>
+#include <stdint.h>
+
+#ifdef __cplusplus
+extern "C" {
+#endif
+
+/* Draws the tree of a table: writes the column and the row of every node on the chain, and no other entry. Answers the refusal in bits 0 to 15, the number of nodes
+ * in bits 16 to 31, the width in bits 32 to 47, the height in bits 48 to 63. A refusal is 1 to 6, with 0 nodes, width and height, and then nothing is written; 0 is
+ * no refusal.
+ *   1 length 0, not a multiple of 8 or above 32,776    2 the head's right or tag is not 0    3 the chain leaves the table or meets a record twice
+ *   4 a left or right leaves the table or the chain    5 not one tree over the chain         6 placements shorter than 2 times the records */
+uint64_t bt_draw(const uint8_t *table, size_t table_len, uint16_t *placements, size_t placements_len);
+
+/* Checks any placements against a table, and writes nothing. Answers 0 for a good drawing, a refusal 1 to 6, or the first of these that holds:
+ *   21 two nodes at one point    22 a child not lower than its parent    23 two lines share more than a common end, or a node lies on a line that it does not end
+ *   24 a left child not left of its right sibling, seen from their parent */
+uint32_t bt_check(const uint8_t *table, size_t table_len, const uint16_t *placements, size_t placements_len);
+
+/* The width that a drawing of so many nodes may have: 3 * floor(log2 nodes) + 1; 0 for 0 nodes and for more than 4,096. bt_draw keeps to it. */
+uint64_t bt_allowed_width(uint64_t nodes);
+
+/* The parts of what bt_draw answers. */
+static inline unsigned bt_refusal(uint64_t drawn) { return drawn & 0xffff; }
+static inline unsigned bt_nodes(uint64_t drawn) { return drawn >> 16 & 0xffff; }
+static inline unsigned bt_width(uint64_t drawn) { return drawn >> 32 & 0xffff; }
+static inline unsigned bt_height(uint64_t drawn) { return drawn >> 48 & 0xffff; }
+
+#ifdef __cplusplus
+}
+#endif
+
+#endif

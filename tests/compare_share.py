@@ -1,0 +1,64 @@
+#!/usr/bin/env python3
+"""compare_share.py FOLDER PLAN: holds the calls of FOLDER/share (written by compare.rs) to the Python reference, and for some
+of the tables, and for some longer inputs, what the program PLAN prints. A difference is saved in FOLDER."""
+import os
+import struct
+import subprocess
+import sys
+
+sys.dont_write_bytecode = True
+sys.path.insert(0, os.path.join(os.path.dirname(os.path.abspath(__file__)), 'reference'))
+import racksheet
+
+folder, plan = sys.argv[1:]
+data = open(os.path.join(folder, 'share'), 'rb').read()
+at = calls = runs = differences = 0
+
+
+def take(n):
+    global at
+    at += n
+    return data[at - n:at]
+
+
+def save(what, table, places, told):
+    global differences
+    differences += 1
+    stem = os.path.join(folder, 'difference-python-%s-%d' % (what, calls + runs))
+    open(stem + '.table', 'wb').write(table)
+    open(stem + '.places', 'wb').write(struct.pack('<%dH' % len(places), *places))
+    open(stem + '.txt', 'w').write(told + '\n')
+    print('DIFFERENCE: %s; saved as %s.*' % (told[:200], stem))
+
+
+def run(table):
+    global runs
+    runs += 1
+    printed = subprocess.run([plan], input=table, stdout=subprocess.PIPE).stdout
+    wanted = racksheet.program(table)
+    if printed != wanted:
+        save('program', table, [], 'ours %r, reference %r' % (printed, wanted))
+
+
+while at < len(data):
+    which = take(1)
+    size, numbers = struct.unpack('<II', take(8))
+    table, before = take(size), list(struct.unpack('<%dH' % numbers, take(2 * numbers)))
+    answer, = struct.unpack('<Q', take(8))
+    calls += 1
+    if which == b'd':
+        after = list(struct.unpack('<%dH' % numbers, take(2 * numbers)))
+        refusal, n, width, height, placed = racksheet.draw(table, before)
+        wanted = refusal | n << 16 | width << 32 | height << 48
+        if (answer, after) != (wanted, placed):
+            save('draw', table, before, 'ours %#x, reference %#x' % (answer, wanted))
+        if calls % 40 == 1:
+            run(table)
+    else:
+        wanted = racksheet.check(table, before)
+        if answer != wanted:
+            save('check', table, before, 'ours %d, reference %d' % (answer, wanted))
+for size in (0, 1, 8, 32775, 32776, 32777, 32784, 65536, 100000, 1000000):
+    run(bytes(size))
+print('%d calls and %d runs of the program beside racksheet.py, %d differences' % (calls, runs, differences))
+sys.exit(differences != 0)

@@ -1,0 +1,352 @@
+#!/usr/bin/env python3
+"""Makes crates/trials/stdin and crates/trials/stdout anew, always the same, from a fixed seed.
+
+The cases are sheets of document 01, every refusal and every verdict in several ways, and random trees.
+What must be printed comes from the reference program alone (reference/racksheet.py), never from our code.
+The form of the cases is told at the head of crates/trials/src/main.rt.
+"""
+import os
+import random
+import sys
+
+here = os.path.dirname(os.path.abspath(__file__))
+sys.path[:0] = [here, os.path.join(here, 'reference')]
+sys.dont_write_bytecode = True
+import racksheet
+import slips
+import trees
+from trees import packed
+
+SEED = 20240501
+ALL_UP_TO = 600                     # placements that are printed one by one
+
+
+class Trials:
+    """The stream of cases, with the table and the placements as they stand, and what must be printed."""
+
+    def __init__(self):
+        self.cases, self.lines = [], []
+        self.bytes, self.places = b'', []
+
+    def case(self, kind, count=0, first=0, step=0, more=b''):
+        self.cases.append(b''.join(w.to_bytes(2, 'little') for w in (kind, count, first, step)) + more)
+
+    def table(self, data):
+        self.bytes = data
+        self.case(1, len(data), more=data)
+
+    def numbers(self, places):
+        self.places = list(places)
+        self.case(2, len(places), more=packed([places]))
+
+    def filled(self, count, first=0, step=0):
+        self.places = [(first + step * i) % 65536 for i in range(count)]
+        self.case(3, count, first, step)
+
+    def changed(self, pairs):
+        for at, number in pairs:
+            self.places[at] = number
+        self.case(4, len(pairs), more=packed(pairs))
+
+    def draw(self):
+        self.case(5)
+        refusal, n, width, height, self.places = racksheet.draw(self.bytes, self.places)
+        self.lines.append('draw %d %d %d %d' % (refusal, n, width, height))
+        if len(self.places) <= ALL_UP_TO:
+            self.lines.append(' '.join(['places'] + [str(x) for x in self.places]))
+        else:
+            s = 0
+            for x in self.places:
+                s = (65599 * s + x + 1) % 4294967291
+            self.lines.append('sum %d' % s)
+
+    def check(self):
+        self.case(6)
+        self.lines.append('check %d' % racksheet.check(self.bytes, self.places))
+
+    def width(self, n):
+        self.case(7, n % 65536, n // 65536 % 65536, n // 2 ** 32)
+        self.lines.append('width %d' % racksheet.allowed_width(n))
+
+    def both(self, data, first=0, step=0, short=0, extra=0):
+        """Draws and checks a table on placements that tell which were kept."""
+        self.table(data)
+        self.filled(max(0, 2 * (len(data) // 8) - short) + extra, first, step)
+        self.draw()
+        self.check()
+
+
+def plain(links, root=1, tag=100, head=None):
+    """A table of the given (left, right), chained in order from 1."""
+    n = len(links)
+    words = [head or [1 if n else 0, root, 0, 0]]
+    for k, (a, b) in enumerate(links, 1):
+        words.append([k + 1 if k < n else 0, a, b, tag + k])
+    return words
+
+
+def worked(t):
+    """The sheets of document 01, held to what the paper itself says: links, root, and the points of records 1, 2, .."""
+    def says(line, back=1):
+        assert t.lines[-back] == line, (line, t.lines[-back])
+
+    two = [(0, 0), (1, 1)]
+    drawn = [
+        ([], 0, []), ([(0, 0)], 1, [(0, 0)]), ([(2, 0), (0, 0)], 1, two), ([(0, 2), (0, 0)], 1, two),
+        ([(2, 3), (0, 0), (0, 0)], 1, [(0, 0), (1, 2), (1, 1)]),
+        ([(2, 3), (0, 0), (4, 0), (0, 0)], 1, [(0, 0), (1, 3), (1, 1), (1, 2)]),
+        ([(2, 3), (0, 0), (0, 4), (0, 0)], 1, [(0, 0), (1, 3), (1, 1), (1, 2)]),
+        ([(0, 2), (3, 4), (0, 0), (5, 0), (0, 0)], 1, [(0, 0), (1, 1), (1, 2), (3, 2), (2, 3)]),
+        ([(0, 2), (3, 4), (0, 0), (0, 5), (0, 0)], 1, [(0, 0), (1, 1), (1, 2), (3, 2), (2, 3)]),
+        # the six of the program's sheet, and the ten of the finding on document 004
+        ([(2, 3), (0, 0), (4, 5), (0, 0), (6, 0), (0, 0)], 1, [(0, 0), (1, 3), (1, 1), (1, 2), (3, 2), (2, 4)]),
+        ([(0, 2), (3, 6), (0, 4), (0, 5), (0, 0), (7, 10), (8, 9), (0, 0), (0, 0), (0, 0)], 1, []),
+    ]
+    for links, root, points in drawn:
+        t.both(packed(plain(links, root)), 60000, 7, extra=3)
+        assert t.places[2:2 + 2 * len(points)] == [x for point in points for x in point]
+        if len(links) in (0, 1, 3, 6):
+            says('draw 0 %s' % {0: '0 0 0', 1: '1 1 1', 3: '3 2 3', 6: '6 4 5'}[len(links)], back=3)
+    # y and z (6 and 7) below 5, which hangs from a right knee
+    t.both(packed(plain([(0, 2), (3, 4), (0, 0), (5, 8), (6, 7), (0, 0), (0, 0), (9, 0), (10, 0), (11, 0), (0, 0)])), 60000, 7)
+    x, y = t.places[10:12]
+    assert t.places[12:16] == [x - 1, y + 1, x - 1, y + 2]
+    for links, places, verdict in (
+            ([(2, 3), (0, 0), (0, 0)], [0, 0, 0, 0, 0, 1, 0, 2], 23), ([(2, 3), (0, 0), (0, 0)], [0, 0, 0, 0, 2, 1, 1, 1], 24),
+            ([(2, 0), (0, 0)], [0, 0, 0, 0, 1, 0], 22)):
+        t.table(packed(plain(links)))
+        t.numbers(places)
+        t.check()
+        says('check %d' % verdict)
+    paper = {0: 0, 1: 1, 2: 4, 3: 4, 4: 7, 4096: 37, 4097: 0}
+    for n in sorted(set(paper) | {65535, 65536, 65537, 2 ** 32, 2 ** 32 + 1, 2 ** 48 - 1} |
+                    {2 ** k + d for k in range(2, 13) for d in (-1, 0, 1)}):
+        t.width(n)
+        says('width %d' % paper.get(n, racksheet.allowed_width(n)))
+    full = plain([(k + 1, 0) for k in range(1, 4096)] + [(0, 0)])
+    for words, short, answer in (
+            (full, 0, 0), (full + [[0, 0, 0, 0]], 0, 1),                    # 32,776 bytes may be accepted, 32,784 gives 1
+            ([[0, 1, 0, 0]], 0, 5), (plain([(2, 2), (0, 0)]), 0, 5),        # head alone with root 1; left and right naming one
+            (plain([(2, 3), (0, 0), (0, 0)]), 1, 6)):                       # placements one number short
+        t.both(packed(words), 9, 11, short=short)
+        says('check %d' % answer)
+
+
+def refusals(t):
+    """Every refusal in several ways, and which comes first where several causes hold."""
+    good = plain([(2, 3), (0, 0), (4, 5), (0, 0), (6, 0), (0, 0)])
+
+    def edited(*edits, base=good):
+        words = [list(w) for w in base]
+        for k, j, x in edits:
+            words[k][j] = x
+        return packed(words)
+
+    data = packed(good)
+    for length in (0, 1, 7, 9, 15, 17, 55):                                 # 1
+        t.both(data[:length], 9, 1)
+    for length in (32775, 32777, 40000, 65535):
+        t.both((data + bytes(65536))[:length], 9, 1)
+    t.both(data[:8], 9, 1)                                                  # the head alone, its chain cut off
+    head = [[(0, 2, 1)], [(0, 3, 1)], [(0, 2, 65535), (0, 3, 256)], [(0, 2, 256), (0, 0, 99)]]  # 2
+    chain = [[(0, 0, 7)], [(0, 0, 65535)], [(6, 0, 1)], [(6, 0, 6)], [(6, 0, 3)], [(6, 0, 7)], [(1, 0, 1)],
+             [(3, 0, 2)], [(6, 0, 256)], [(6, 0, 7), (2, 1, 50)]]           # 3
+    links = [[(2, 1, 7)], [(2, 2, 65535)], [(1, 1, 4096)], [(5, 0, 0)], [(0, 0, 2)], [(2, 2, 256), (3, 1, 3)]]  # 4
+    tree = [[(0, 1, 0)], [(0, 1, 7)], [(0, 1, 65535)], [(0, 0, 0)], [(0, 1, 2)], [(0, 1, 3)], [(6, 1, 1)],
+            [(6, 2, 1)], [(2, 1, 4)], [(2, 1, 2)], [(6, 1, 6)], [(1, 1, 0)], [(1, 2, 2)], [(1, 2, 0), (6, 1, 3)],
+            [(5, 1, 5)], [(1, 2, 0)], [(1, 2, 0), (4, 2, 3)], [(0, 0, 0), (0, 1, 6)]]                           # 5
+    for edits in head + chain + links + tree:
+        t.both(edited(*edits), 1000, 3)
+        t.both(edited(*edits), 1000, 3, short=2)
+    two = plain([(0, 0), (3, 0), (2, 0)])                                   # a cycle off the root
+    t.both(packed(two), 1, 1)
+    long = plain([(0, 0)] * 4096)                                           # a long chain that runs into itself
+    for last in (1, 4096, 4097):
+        long[4096][0] = last
+        t.both(packed(long), 1, 1)
+    lone = [[0, 0, 0, 0]] + [[k * 7 % 9, 65535, 3, 1] for k in range(5)]    # nothing chained, rubbish behind
+    t.both(packed(lone), 1, 1)
+    for short in (0, 1, 2, 12):                                             # 6
+        t.both(packed(good + [[9, 9, 9, 9]]), 1, 1, short=short)
+        t.both(packed([[0, 0, 0, 0]]), 1, 1, short=short)
+    t.both(data, 1, 1, extra=5)
+
+
+def damaged(t, rng):
+    """Tables with a word or two written over."""
+    for _ in range(260):
+        tree = trees.uniform(rng.randint(1, 9), rng)
+        data, _ = trees.table(tree, rng, extra=rng.randint(0, 2))
+        words = [int.from_bytes(data[i:i + 2], 'little') for i in range(0, len(data), 2)]
+        for _ in range(rng.randint(1, 2)):
+            words[rng.randrange(len(words))] = rng.choice((0, rng.randrange(len(data) // 8 + 1), rng.randrange(65536)))
+        t.both(packed([words]), rng.randrange(65536), rng.randrange(5), short=rng.choice((0, 0, 0, 0, 1)))
+
+
+def verdicts(t, rng):
+    """Checks made by hand: for each the links, the points of 1, 2, .., and what they are to tell apart."""
+    top = 65535
+    two, one, path = [(2, 3), (0, 0), (0, 0)], [(2, 0), (0, 0)], [(2, 0), (3, 0), (0, 0)]
+    four = [(2, 3), (4, 0), (0, 0), (0, 0)]
+    five = [(2, 3), (4, 0), (5, 0), (0, 0), (0, 0)]
+    for links, points in [
+        (one, [(0, 0), (0, 0)]), (one, [(0, 0), (0, 1)]), (one, [(5, 5), (0, 4)]), (one, [(5, 5), (9, 5)]),
+        (one, [(top, 0), (0, top)]), (one, [(0, top), (top, 0)]), (one, [(top, top), (top, top)]),
+        (two, [(1, 0), (0, 1), (2, 1)]), (two, [(1, 0), (2, 1), (0, 1)]), (two, [(1, 0), (1, 1), (1, 2)]),
+        (two, [(0, 0), (1, 1), (2, 2)]), (two, [(0, 0), (2, 4), (1, 2)]), (two, [(0, 0), (2, 4), (3, 2)]),
+        (two, [(0, 0), (3, 2), (2, 4)]), (two, [(1, 0), (0, 1), (0, 1)]), (two, [(1, 0), (0, 0), (0, 0)]),
+        # products that need more than 32 bits: in order, out of order, and almost in one line
+        (two, [(0, 0), (0, top), (top, 1)]), (two, [(0, 0), (top, 1), (0, top)]),
+        (two, [(0, 0), (top - 1, top), (top, top)]), (two, [(0, 0), (top, top), (top - 1, top)]),
+        (two, [(top, 0), (0, 1), (top, top)]), (two, [(top, 0), (top, top), (0, 1)]),
+        (two, [(0, 0), (32767, 32768), (top, top)]), (two, [(0, 0), (32768, 32769), (top, top)]),
+        (two, [(32768, 0), (0, 32768), (top, 32768)]), (two, [(0, 0), (46341, 46341), (46342, 46341)]),
+        # a node below its parent's line: the next line goes on straight, or touches nothing
+        (path, [(0, 0), (1, 1), (2, 2)]), (path, [(0, 0), (1, 1), (0, 2)]), (path, [(0, 0), (5, 5), (2, 3)]),
+        # a crossing, a node on a line that it does not end, ends that touch, and near misses
+        (four, [(1, 0), (0, 2), (4, 1), (4, 4)]), (four, [(2, 0), (0, 1), (4, 4), (4, 2)]),
+        (four, [(2, 0), (0, 2), (2, 6), (2, 4)]), (four, [(2, 0), (0, 2), (2, 3), (2, 4)]),
+        (four, [(4, 0), (0, 1), (4, 8), (3, 4)]), (four, [(4, 0), (0, 1), (4, 8), (5, 4)]),
+        (four, [(0, 0), (0, 4), (4, 4), (2, 6)]), (four, [(0, 0), (2, 2), (4, 4), (4, 5)]),
+        (five, [(2, 0), (0, 1), (4, 1), (4, 3), (0, 3)]), (five, [(2, 0), (0, 1), (4, 1), (2, 3), (2, 4)]),
+        (five, [(2, 0), (0, 1), (4, 1), (2, 3), (2, 3)]), (five, [(2, 0), (1, 1), (3, 1), (1, 9), (3, 9)]),
+        (five, [(2, 0), (0, 2), (4, 2), (3, 3), (1, 3)]), (five, [(2, 0), (0, 2), (4, 2), (2, 4), (2, 4)]),
+        # several conditions at once: the first is told
+        (four, [(1, 1), (1, 1), (0, 0), (1, 0)]), (four, [(1, 5), (2, 6), (0, 4), (0, 9)]),
+        (four, [(2, 0), (3, 1), (1, 1), (0, 2)]), (five, [(0, 0), (0, 1), (0, 2), (0, 3), (0, 4)]),
+    ]:
+        t.table(packed(plain(links)))
+        t.numbers([rng.randrange(65536), rng.randrange(65536)] + [x for point in points for x in point])
+        t.check()
+
+
+def stored(points, record, records):
+    """The points of a tree's nodes as placements of its records."""
+    places = [0] * (2 * records)
+    for v in range(1, len(points)):
+        places[2 * record[v]], places[2 * record[v] + 1] = points[v]
+    return places
+
+
+def loose(tree, rng):
+    """Any columns, and rows that fall from level to level, over the whole range."""
+    step = 65536 // (max(tree.depth) + 1)
+    return [(rng.choice((0, 65535, rng.randrange(65536), rng.randrange(65536))), d * step + rng.randrange(step))
+            for d in tree.depth]
+
+
+def stretched(tree, rng):
+    """A good level drawing, stretched up to 65,535."""
+    sx, sy = rng.choice(((1, 1), (2, 3), (6, 2), (65535 // tree.n, 65535 // max(1, max(tree.depth)))))
+    return [(x * sx, y * sy) for x, y in trees.levels(tree)]
+
+
+def moved(tree, points, rng):
+    """One node moved a little or far, onto a node, or onto a line or close to it."""
+    v, u = rng.randint(1, tree.n), rng.randint(1, tree.n)
+    c = tree.left[u] or tree.right[u] or u
+    (x, y), (px, py), (cx, cy), s = points[v], points[u], points[c], rng.randint(0, 4)
+    x, y = rng.choice((
+        (x + rng.randint(-2, 2), y + rng.randint(-1, 1)), (px, py), (x, py), (cx, y),
+        ((px * (4 - s) + cx * s) // 4 + rng.choice((0, 0, 1)), (py * (4 - s) + cy * s) // 4),
+        (rng.randrange(65536), rng.randrange(65536))))
+    points = list(points)
+    points[v] = (min(max(x, 0), 65535), min(max(y, 0), 65535))
+    return points
+
+
+def check_case(rng, low=2, high=16):
+    """A table and placements for a check."""
+    tree = rng.choice(trees.shapes(rng)[5:])[1](rng.randint(low, high))
+    data, record = trees.table(tree, rng, extra=rng.randint(0, 2))
+    way = rng.randrange(6)
+    points = loose(tree, rng) if way == 0 else stretched(tree, rng)
+    if way == 1:                            # seen in a mirror: clean lines, children out of order
+        points = [(65535 - x, y) for x, y in points]
+    for _ in range(max(0, way - 2)):
+        points = moved(tree, points, rng)
+    return data, stored(points, record, len(data) // 8)
+
+
+def draw_case(rng, low=14, high=40):
+    """A table and placements for a draw."""
+    tree = rng.choice(trees.shapes(rng)[5:])[1](rng.randint(low, high))
+    data, _ = trees.table(tree, rng, extra=rng.randint(0, 2))
+    return data, [0] * (2 * (len(data) // 8))
+
+
+def random_checks(t, rng):
+    for _ in range(400):
+        data, places = check_case(rng)
+        t.table(data)
+        t.numbers(places)
+        t.check()
+
+
+def telling(t, rng):
+    """For each slip of a drawing or a check, a dozen cases that tell it."""
+    for kind, name, *changes in slips.SLIPS:
+        if kind == 'table':
+            continue
+        make, ask = (draw_case, 'draw') if kind == 'draw' else (check_case, 'check')
+        wrong, told = slips.reference(changes), 0
+        for _ in range(20000):
+            data, places = make(rng)
+            if slips.answer(wrong, ask, data, places) != slips.answer(racksheet, ask, data, places):
+                told += 1
+                t.table(data)
+                t.numbers(places)
+                if kind == 'draw':
+                    t.draw()
+                t.check()
+            if told == 12:
+                break
+
+
+def random_trees(t, rng):
+    """Trees of every shape: drawn, checked, then a few placements of the drawing written over and checked again."""
+    sizes = [rng.randint(2, 13) for _ in range(5)] + [rng.randint(14, 40) for _ in range(12)]
+    sizes += [rng.randint(41, 90) for _ in range(3)] + [rng.randint(91, 250) for _ in range(1)]
+    for name, make in trees.shapes(rng):
+        large = [rng.randint(300, 1200)] if 'path' not in name and name != 'zigzag' else []
+        largest = [4096] if name in ('random path', 'ties', 'uniform', 'wide switches', 'nested', 'hanging') else []
+        for n in sizes + large + largest:
+            tree = make(n)
+            data, record = trees.table(tree, rng, extra=min(rng.randint(0, 3), 4096 - n))
+            t.both(data, rng.randrange(65536), rng.randrange(65536), extra=rng.randint(0, 3))
+            for _ in range(2 if n < 4096 else 1):
+                v, u = rng.randint(1, n), rng.randint(1, n)
+                k, j = 2 * record[v], 2 * record[u]
+                before = t.places[k:k + 2]
+                x, y = rng.choice(((before[0] + 1, before[1]), (max(before[0] - 1, 0), before[1]),
+                                   tuple(t.places[j:j + 2]), (before[0], t.places[j + 1]), (t.places[j], before[1] + 1)))
+                t.changed([(k, x), (k + 1, y)])
+                t.check()
+                t.changed([(k, before[0]), (k + 1, before[1])])
+
+
+def main():
+    rng = random.Random(SEED)
+    t = Trials()
+    worked(t)
+    refusals(t)
+    damaged(t, rng)
+    verdicts(t, rng)
+    random_checks(t, rng)
+    telling(t, rng)
+    random_trees(t, rng)
+    crate = os.path.join(os.path.dirname(here), 'crates', 'trials')
+    with open(os.path.join(crate, 'stdin'), 'wb') as f:
+        f.write(b''.join(t.cases))
+    with open(os.path.join(crate, 'stdout'), 'w', encoding='ascii', newline='\n') as f:
+        f.write('\n'.join(t.lines) + '\n')
+    for name in ('draw', 'check', 'width'):
+        asked = [line.split()[1] for line in t.lines if line.startswith(name + ' ')]
+        if name == 'width':
+            print(name, len(asked))
+        else:
+            print(name, len(asked), *('%s:%d' % (a, asked.count(a)) for a in sorted(set(asked), key=int)))
+
+
+if __name__ == '__main__':
+    main()

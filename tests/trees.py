@@ -1,0 +1,174 @@
+"""Ordered binary trees of many shapes, and their tables. Nothing here knows how a tree is drawn."""
+
+
+class Tree:
+    """Nodes 1 to n, parents before children; left and right by node, 0 for none."""
+
+    def __init__(self, n):
+        self.n = n
+        self.left = [0] * (n + 1)
+        self.right = [0] * (n + 1)
+        self.depth = [0] * (n + 1)
+
+
+def split(n, choose):
+    """A tree of n nodes: of the m nodes below a node at depth d, choose(m, d) are in its left subtree."""
+    tree = Tree(n)
+    made = 0
+    todo = [(0, 0, n, 0)] if n else []      # parent, side, nodes, depth
+    while todo:
+        parent, side, m, d = todo.pop()
+        made += 1
+        node = made
+        tree.depth[node] = d
+        if parent:
+            (tree.left, tree.right)[side][parent] = node
+        a = choose(m - 1, d)
+        if m - 1 - a:
+            todo.append((node, 1, m - 1 - a, d + 1))
+        if a:
+            todo.append((node, 0, a, d + 1))
+    return tree
+
+
+def uniform(n, rng):
+    """Each tree of n nodes equally likely (Remy)."""
+    kids = {0: None}                        # a node's two children; None for a leaf
+    parent = {0: None}
+    root = 0
+    for k in range(n):
+        at = rng.randrange(2 * k + 1)
+        inner, leaf = 2 * k + 1, 2 * k + 2
+        above = parent[at]
+        if above is None:
+            root = inner
+        else:
+            kids[above][kids[above].index(at)] = inner
+        kids[inner] = [at, leaf] if rng.random() < 0.5 else [leaf, at]
+        kids[leaf] = None
+        parent[inner], parent[at], parent[leaf] = above, inner, inner
+    order, todo = [], [root]
+    while todo:
+        v = todo.pop()
+        if kids[v] is not None:
+            order.append(v)
+            todo += [kids[v][1], kids[v][0]]
+    number = {v: i + 1 for i, v in enumerate(order)}
+    tree = Tree(n)
+    for v in order:
+        a, b = (number.get(c, 0) for c in kids[v])
+        tree.left[number[v]], tree.right[number[v]] = a, b
+        for c in (a, b):
+            tree.depth[c] = tree.depth[number[v]] + 1
+    return tree
+
+
+def hanging(n, rng):
+    """Knee, switch, knee of the other hand with a hung subtree, which is built in the same way as seen in a mirror."""
+    def even(m):                            # ties wherever they can be
+        a = (m - rng.randint(0, 1)) // 2
+        return (even(a), even(m - 1 - a)) if m else 0
+
+    def mirror(t):
+        return t and (mirror(t[1]), mirror(t[0]))
+
+    def build(m):
+        if m < 11:
+            return even(m)
+        k = rng.randint(3, (m - 5) // 2)
+        hung, rest = mirror(build(k)), even(m - 4 - k)
+        switch = ((0, 0), rng.choice(((hung, rest), (rest, hung))))
+        return rng.choice(((0, switch), (switch, 0)))
+
+    tree, made, todo = Tree(n), 0, [(build(n), 0, 0)]
+    while todo:
+        t, parent, side = todo.pop()
+        if t:
+            made += 1
+            if parent:
+                (tree.left, tree.right)[side][parent] = made
+                tree.depth[made] = tree.depth[parent] + 1
+            todo += [(t[1], made, 1), (t[0], made, 0)]
+    return tree
+
+
+def shapes(rng):
+    """Name and maker, from a number of nodes, of each shape."""
+    def hung(low, high):
+        # a spine with subtrees of low to high nodes hung on either side
+        def choose(m, d):
+            k = min(rng.randint(low, high), m // 2)
+            return k if rng.random() < 0.5 else m - k
+        return choose
+
+    def switching(size):
+        # left, left, right, right, ..: a switch at every second node, a child pending at each knee
+        def choose(m, d):
+            k = min(size, m // 2)
+            return k if d % 4 < 2 else m - k
+        return choose
+
+    def tied(m, d):
+        # equal subtrees wherever the number of nodes allows it
+        return m // 2 if m % 2 == 0 or rng.random() < 0.5 else m - m // 2
+
+    def nested(m, d):
+        # a third or a half hung, so that subtrees hang within subtrees on both hands
+        k = m // rng.choice((2, 2, 3))
+        return k if rng.random() < 0.5 else m - k
+
+    return [
+        ('left path', lambda n: split(n, lambda m, d: m)),
+        ('right path', lambda n: split(n, lambda m, d: 0)),
+        ('zigzag', lambda n: split(n, lambda m, d: m if d % 2 else 0)),
+        ('random path', lambda n: split(n, lambda m, d: rng.choice((0, m)))),
+        ('balanced', lambda n: split(n, lambda m, d: m // 2)),
+        ('ties', lambda n: split(n, tied)),
+        ('random split', lambda n: split(n, lambda m, d: rng.randint(0, m))),
+        ('uniform', lambda n: uniform(n, rng)),
+        ('hung leaves', lambda n: split(n, hung(0, 1))),
+        ('hung trees', lambda n: split(n, hung(1, 12))),
+        ('switches', lambda n: split(n, switching(1))),
+        ('wide switches', lambda n: split(n, switching(rng.randint(2, 40)))),
+        ('nested', lambda n: split(n, nested)),
+        ('hanging', lambda n: hanging(n, rng)),
+    ]
+
+
+def table(tree, rng, extra=0, shuffled=True):
+    """The bytes of a tree's table and the record of each node. Unchained records hold rubbish."""
+    records = tree.n + 1 + extra
+    names = list(range(1, records))
+    if shuffled:
+        rng.shuffle(names)
+    record = [0] + names[:tree.n]
+    words = [[rng.randrange(65536) for _ in range(4)] for _ in range(records)]
+    chain = record[1:]
+    if shuffled:
+        rng.shuffle(chain)
+    words[0] = [chain[0] if chain else 0, record[1] if chain else 0, 0, 0]
+    after = dict(zip(chain, chain[1:] + [0]))
+    for v in range(1, tree.n + 1):
+        k = record[v]
+        words[k] = [after[k], record[tree.left[v]], record[tree.right[v]], words[k][3]]
+    return packed(words), record
+
+
+def packed(words):
+    """Records of words as bytes, low byte first."""
+    return b''.join(w.to_bytes(2, 'little') for record in words for w in record)
+
+
+def levels(tree):
+    """A good drawing that fits any tree: the column is the place in order from left to right, the row the depth."""
+    points = [(0, 0)] * (tree.n + 1)
+    column, todo, v = 0, [], 1 if tree.n else 0
+    while v or todo:
+        while v:
+            todo.append(v)
+            v = tree.left[v]
+        v = todo.pop()
+        points[v] = (column, tree.depth[v])
+        column += 1
+        v = tree.right[v]
+    return points
