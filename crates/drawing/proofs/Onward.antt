@@ -15,12 +15,13 @@ use Rattle.layout.specs.Layout.{Layout, blank}
 use Rattle.layout.specs.Spine.{SpineNode, hangs, Role, knee, ordinary, switch, opposite, seen, runRole, roleAfter, handAfter}
 use Rattle.layout.specs.Drawing.{Rest, join}
 use Rattle.layout.specs.Held.{inwards, hungOn, heightOn, widthOn, spineOn, roleNext, far, lay}
+use Rattle.layout.proofs.Spines.{spineTree}
 use Rattle.layout.proofs.Held.{bottom, Inside, Rooms, knee-room, ordinary-room, switch-room, inside-less}
 use Rattle.measure.specs.Prepared.{codeOf, Prepared, Along, no-spine, onward}
 use Rattle.drawing.specs.Answer.{store}
 use Rattle.drawing.specs.Placing.{isSwitch, point, kept, finish, finished, Ready}
 use Rattle.drawing.proofs.StoredOrder.{Apart, store-comm, store-join}
-use Rattle.drawing.proofs.Shapes.{Disjoint, treeOf, hung-none, height-none, width-none, shape-hung, shape-lay}
+use Rattle.drawing.proofs.Shapes.{Disjoint, hung-none, height-none, width-none, shape-hung, shape-lay}
 use Rattle.drawing.proofs.Columns.{over-edge, over-back}
 
 -- ---- what is pending
@@ -62,10 +63,10 @@ finished-run W a e o H r Q ls p h = ap (λ (T : Tree). finish a e T (lay a e (in
 
 -- ---- what is left gives the same
 
-apart-laid : (a b : Side) (e e′ f t : ℕ) (o : Role) (H r p : ℕ) (S : Tree) (ls : List SpineNode) → Disjoint S (treeOf ls) → Apart (hungOn a e t S) (lay b e′ f o H r p ls .drawn)
+apart-laid : (a b : Side) (e e′ f t : ℕ) (o : Role) (H r p : ℕ) (S : Tree) (ls : List SpineNode) → Disjoint S (spineTree ls) → Apart (hungOn a e t S) (lay b e′ f o H r p ls .drawn)
 apart-laid a b e e′ f t o H r p S ls h = rw (shape-hung a e t S, shape-lay b e′ f o H r p ls) h
 
-module _ (W : ℕ) (a : Side) (e H r k : ℕ) (s : Side) (S Q : Tree) (ls : List SpineNode) (p : List ℕ) (apart : Disjoint S (treeOf ls)) where
+module _ (W : ℕ) (a : Side) (e H r k : ℕ) (s : Side) (S Q : Tree) (ls : List SpineNode) (p : List ℕ) (apart : Disjoint S (spineTree ls)) where
   abbrev f : ℕ
   f = inwards a e (W + 2)
 
@@ -114,7 +115,7 @@ module _ (W : ℕ) (a : Side) (e H r k : ℕ) (s : Side) (S Q : Tree) (ls : List
   abbrev drawn-both : List ℕ
   drawn-both = store (hungOn a (inwards a e 1) (r + heightOn a S + 1) Q) (store (hungOn a (inwards a e 1) (r + 1) S) (point k (inwards a e 1) r p))
 
-  pub switch-over : Inside 65536 a e (W + 3) → Disjoint Q (treeOf ls) →
+  pub switch-over : Inside 65536 a e (W + 3) → Disjoint Q (spineTree ls) →
       finished W (opposite a) f (roleNext (opposite a) switch ls) (r + heightOn a S + heightOn a Q) (r + 1) none ls drawn-both ≡ finished W a e switch H r Q (hangs k s S ∷ ls) p
   unfolding lay finish finished kept
   switch-over c apart′ = finished-none W (opposite a) f _ _ _ ls _ ∙ (ap (λ (g : ℕ). store (after-switch g .drawn) drawn-both) (over-back a e (W + 2) (inside-less 65536 a e (omega arith) c))

@@ -14,8 +14,10 @@ use Rattle.layout.specs.Layout.{Layout, blank, placed, width, height, mirror}
 use Rattle.layout.specs.Spine.{SpineNode, hangs, Role, knee, ordinary, switch}
 use Rattle.layout.specs.Drawing.{join, draw, drawing}
 use Rattle.layout.specs.Held.{facing, put, hungOn, heightOn, widthOn, spineOn, far, lay}
-use Rattle.layout.proofs.Rows.{shape, mirror-twice, size-facing}
+use Rattle.layout.proofs.Rows.{shape, size-facing}
+use Rattle.layout.proofs.Spines.{over, spineTree}
 use Rattle.layout.proofs.Theorem.{promise}
+use Rattle.layout.proofs.EverySpine.{shape-put, facing-twice}
 
 -- No record is in both trees.
 abbrev pub Disjoint : Tree → Tree → Type 0
@@ -25,27 +27,17 @@ pub count-node : (i k : ℕ) (a b : Tree) → count i (nodes (node k a b)) ≡ s
 unfolding nodes count
 count-node i k a b = omega (arith, count-append i (nodes a) (nodes b))
 
--- The tree of a spine node k with S hung on the side s and R on the other.
-unfoldable pub plug : ℕ → Side → Tree → Tree → Tree
-plug k left S R = node k S R
-plug k right S R = node k R S
-
--- The tree whose spine it is.
-unfoldable pub treeOf : List SpineNode → Tree
-treeOf [] = none
-treeOf (hangs k s S ∷ ls) = plug k s S (treeOf ls)
-
-pub tree-spine : (s : Side) (T : Tree) → treeOf (spineOn s T) ≡ T
-unfolding treeOf plug spineOn
+pub tree-spine : (s : Side) (T : Tree) → spineTree (spineOn s T) ≡ T
+unfolding spineTree over spineOn
 tree-spine s none = refl
 tree-spine left (node k a b) = go (leb (size b) (size a)) (tree-spine left a) (tree-spine left b)
   where
-    go : (c : Bool) → treeOf (spineOn left a) ≡ a → treeOf (spineOn left b) ≡ b → treeOf (elim c [ true ↦ hangs k right b ∷ spineOn left a | false ↦ hangs k left a ∷ spineOn left b ]) ≡ node k a b
+    go : (c : Bool) → spineTree (spineOn left a) ≡ a → spineTree (spineOn left b) ≡ b → spineTree (elim c [ true ↦ hangs k right b ∷ spineOn left a | false ↦ hangs k left a ∷ spineOn left b ]) ≡ node k a b
     go true h i = ap (λ (n : Tree). node k n b) h
     go false h i = ap (node k a) i
 tree-spine right (node k a b) = go (leb (size a) (size b)) (tree-spine right a) (tree-spine right b)
   where
-    go : (c : Bool) → treeOf (spineOn right a) ≡ a → treeOf (spineOn right b) ≡ b → treeOf (elim c [ true ↦ hangs k left a ∷ spineOn right b | false ↦ hangs k right b ∷ spineOn right a ]) ≡ node k a b
+    go : (c : Bool) → spineTree (spineOn right a) ≡ a → spineTree (spineOn right b) ≡ b → spineTree (elim c [ true ↦ hangs k left a ∷ spineOn right b | false ↦ hangs k right b ∷ spineOn right a ]) ≡ node k a b
     go true h i = ap (node k a) i
     go false h i = ap (λ (n : Tree). node k n b) h
 
@@ -73,32 +65,17 @@ unfolding shape size width
 wide blank h = absurd (omega arith)
 wide (placed k P a b) h = omega arith
 
-shape-put : (s : Side) (e t : ℕ) (L : Layout) → shape (put s e t L) ≡ facing s (shape L)
-unfolding put shape facing mirror
-shape-put left e t blank = refl
-shape-put right e t blank = refl
-shape-put left e t (placed k P a b) = ap₂ (node k) (shape-put left e t a) (shape-put left e t b)
-shape-put right e t (placed k P a b) = ap₂ (node k) (shape-put right e t b) (shape-put right e t a)
-
-facing-twice : (s : Side) (T : Tree) → facing s (facing s T) ≡ T
-unfolding facing
-facing-twice left T = refl
-facing-twice right T = mirror-twice T
-
 pub shape-hung : (s : Side) (e t : ℕ) (S : Tree) → shape (hungOn s e t S) ≡ S
 unfolding hungOn
 shape-hung s e t S = shape-put s e t (draw (facing s S)) ∙ (ap (facing s) (promise (facing s S) .same) ∙ facing-twice s S)
 
-shape-join : (k : ℕ) (P : Point) (s : Side) (D N : Layout) → shape (join k P s D N) ≡ plug k s (shape D) (shape N)
-unfolding shape join plug
-shape-join k P left D N = refl
-shape-join k P right D N = refl
+shape-step : (k : ℕ) (P : Point) (s a : Side) (e t : ℕ) (S R : Tree) (N : Layout) → shape N ≡ R → shape (join k P s (hungOn a e t S) N) ≡ over (hangs k s S) R
+unfolding shape join over
+shape-step k P left a e t S R N h = ap₂ (node k) (shape-hung a e t S) h
+shape-step k P right a e t S R N h = ap₂ (node k) h (shape-hung a e t S)
 
-shape-step : (k : ℕ) (P : Point) (s a : Side) (e t : ℕ) (S R : Tree) (N : Layout) → shape N ≡ R → shape (join k P s (hungOn a e t S) N) ≡ plug k s S R
-shape-step k P s a e t S R N h = shape-join k P s (hungOn a e t S) N ∙ ap₂ (plug k s) (shape-hung a e t S) h
-
-pub shape-lay : (a : Side) (e f : ℕ) (o : Role) (H r p : ℕ) (ls : List SpineNode) → shape (lay a e f o H r p ls .drawn) ≡ treeOf ls
-unfolding lay far treeOf shape
+pub shape-lay : (a : Side) (e f : ℕ) (o : Role) (H r p : ℕ) (ls : List SpineNode) → shape (lay a e f o H r p ls .drawn) ≡ spineTree ls
+unfolding lay far spineTree shape
 shape-lay a e f o H r p [] = refl
 shape-lay left e f knee H r p (hangs k left S ∷ ls) = shape-step k _ left left _ _ S _ _ (shape-lay left e f _ _ _ _ ls)
 shape-lay left e f knee H r p (hangs k right S ∷ ls) = shape-step k _ right left _ _ S _ _ (shape-lay left e f _ _ _ _ ls)

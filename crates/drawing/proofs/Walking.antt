@@ -13,6 +13,7 @@ use Rattle.table.proofs.Lists.{same}
 use Rattle.table.proofs.Accepted.{tree-none, records-bounds, chain-within}
 use Rattle.layout.specs.Spine.{SpineNode, hangs, Role, knee, ordinary, switch, opposite}
 use Rattle.layout.specs.Held.{inwards, hungOn, heightOn, widthOn, spineOn, roleNext, far}
+use Rattle.layout.proofs.Spines.{over, spineTree}
 use Rattle.layout.proofs.Held.{bottom, Inside, inside-less}
 use Rattle.measure.specs.Sized.{Named}
 use Rattle.measure.specs.Forked.{sideOf, Forked}
@@ -22,14 +23,14 @@ use Rattle.measure.specs.Roles.{handOf as sideOfCoded, roleOf}
 use Rattle.drawing.specs.Answer.{store}
 use Rattle.drawing.specs.declared.place.Walk.{Walk}
 use Rattle.drawing.specs.Placing.{isKnee, isSwitch, point, Given, Hanging, Hung, finished, Ready, walkTo, handOf, spineFrom, Going, Stepped}
-use Rattle.drawing.proofs.Shapes.{Disjoint, count-node, plug, treeOf, tree-spine, height-none, width-none}
+use Rattle.drawing.proofs.Shapes.{Disjoint, count-node, tree-spine, height-none, width-none}
 use Rattle.drawing.proofs.Columns.{inside-edge, inside-count, side-not}
 use Rattle.drawing.proofs.Onward.{knee-far, knee-near, ordinary-on, switch-over, bottom-far, bottom-near, bottom-over, along-role, along-hung, at-knee-room, at-ordinary-room, at-switch-width, at-switch-room, ready-far, ready-near, ready-ordinary, ready-switch, rows-far, rows-knee, rows-ordinary, rows-switch}
 
-count-plug : (i k : ℕ) (s : Side) (S R : Tree) → count i (nodes (plug k s S R)) ≡ same i k + (count i (nodes S) + count i (nodes R))
-unfolding plug
-count-plug i k left S R = count-node i k S R
-count-plug i k right S R = omega (arith, count-node i k R S)
+count-over : (i k : ℕ) (s : Side) (S R : Tree) → count i (nodes (over (hangs k s S) R)) ≡ same i k + (count i (nodes S) + count i (nodes R))
+unfolding over
+count-over i k left S R = count-node i k S R
+count-over i k right S R = omega (arith, count-node i k R S)
 
 pub size-none : (t : List ℕ) → size (treeAt t 0) ≡ 0
 unfolding size
@@ -114,20 +115,20 @@ module _ (t roles gaps : List ℕ) (w : Walk) (spine hung : ℕ) (h : Side) (f :
   abbrev H : ℕ
   H = max (w .lowest) (w .row)
 
-  tree-here : treeAt t (w .at) ≡ plug (w .at) h S R
-  unfolding treeOf
-  tree-here = sym (tree-spine s (treeAt t (w .at))) ∙ (ap treeOf (f .forks) ∙ ap (plug (w .at) h S) (tree-spine s R))
+  tree-here : treeAt t (w .at) ≡ over (hangs (w .at) h S) R
+  unfolding spineTree
+  tree-here = sym (tree-spine s (treeAt t (w .at))) ∙ (ap spineTree (f .forks) ∙ ap (over (hangs (w .at) h S)) (tree-spine s R))
 
   counts : (k : ℕ) → count k (nodes (treeAt t (w .at))) ≡ same k (w .at) + (count k (nodes S) + count k (nodes R))
-  counts k = ap (λ (T : Tree). count k (nodes T)) tree-here ∙ count-plug k (w .at) h S R
+  counts k = ap (λ (T : Tree). count k (nodes T)) tree-here ∙ count-over k (w .at) h S R
 
   here : (o : Role) → Going t roles gaps o w → Ready roles gaps (w .gap) a (w .edge) o (w .lowest) (w .row) Q (hangs (w .at) h S ∷ spineOn s R)
   here o g = subst (Ready roles gaps (w .gap) a (w .edge) o (w .lowest) (w .row) Q) (f .forks) (g .ready)
 
-  apart : (o : Role) → Going t roles gaps o w → Disjoint S (treeOf (spineOn s R))
+  apart : (o : Role) → Going t roles gaps o w → Disjoint S (spineTree (spineOn s R))
   apart o g = rw (tree-spine s R) (λ k. omega (arith, g .once k, counts k))
 
-  apart-pending : (o : Role) → Going t roles gaps o w → Disjoint Q (treeOf (spineOn s R))
+  apart-pending : (o : Role) → Going t roles gaps o w → Disjoint Q (spineTree (spineOn s R))
   apart-pending o g = rw (tree-spine s R) (λ k. omega (arith, g .once k, counts k))
 
   -- The role that is kept for the node is the walk's.

@@ -111,14 +111,14 @@ hung-somewhere {t} (hung {s} {S} i d) =
 
 -- ---- the same records and links
 
-shape-put : (s : Side) (e t : ℕ) (L : Layout) → shape (put s e t L) ≡ facing s (shape L)
+pub shape-put : (s : Side) (e t : ℕ) (L : Layout) → shape (put s e t L) ≡ facing s (shape L)
 unfolding shape put facing mirror
 shape-put left e t blank = refl
 shape-put right e t blank = refl
 shape-put left e t (placed k P a b) = ap₂ (node k) (shape-put left e t a) (shape-put left e t b)
 shape-put right e t (placed k P a b) = ap₂ (node k) (shape-put right e t b) (shape-put right e t a)
 
-facing-twice : (s : Side) (t : Tree) → facing s (facing s t) ≡ t
+pub facing-twice : (s : Side) (t : Tree) → facing s (facing s t) ≡ t
 unfolding facing
 facing-twice left t = refl
 facing-twice right t = mirror-twice t
