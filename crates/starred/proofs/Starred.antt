@@ -20,7 +20,7 @@ use Rattle.segment.proofs.Clashing.{same as samePlace, along, clashes}
 use Rattle.verdict.specs.Verdict.{Verdict}
 use Rattle.verdict.proofs.Decide.{present, someLine, samePoint, notLower, linesClash, outOfOrder, verdictOf, decided}
 use Rattle.width.specs.Allowed.{greatest, floorLog2, allowedWidth}
-use Rattle.sheets.specs.Cases.{Case, draws, checks, allows, accepted, Right, cases}
+use Rattle.starred.specs.Cases.{Case, draws, checks, allows, accepted, Right, cases}
 
 both : (a b : Bool) → T (a && b) → T a × T b
 both true true t = (tt, tt)
