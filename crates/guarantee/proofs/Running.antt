@@ -1,6 +1,6 @@
 -- Demand 3 of the running code, from what the drawer and the check ensure: `guaranteed`. Rests on `kept`.
 use mathlib.Core.Path.{_≡_, refl, sym, ap, subst, _∙_}
-use mathlib.Core.Logic.{_≢_, inl}
+use mathlib.Core.Logic.{inl}
 use mathlib.Core.List.{List}
 use Prim.Native.Nat.{ℕ, _≤_}
 use lib.ListN.{length}

@@ -1,6 +1,6 @@
 -- The motions keep a layout clean (`clean-shift`, `clean-flip`), since a clean layout is untangled (`clean-untangled`).
 use mathlib.Core.Path.{_≡_, refl, ap, ap₂, sym, subst, _∙_}
-use mathlib.Core.Logic.{_⊎_, inl, inr, ⊎-elim, ⊎-map}
+use mathlib.Core.Logic.{inl, inr, ⊎-elim, ⊎-map}
 use Prim.Native.Nat.{ℕ, suc, _+_, _*_, _-_, _≤_, _<_}
 use native.Mathlib.Nat.{eq-of-mul-eq-mul-left}
 use native.Mathlib.Omega.{arith}
@@ -9,7 +9,7 @@ use Rattle.segment.specs.Segment.{at, On, Is}
 use Rattle.table.specs.Table.{Side, left, right}
 use Rattle.layout.specs.Layout.{Layout, blank, placed, width, shift, flip}
 use Rattle.layout.proofs.Clean.{onSide, Rooted, rooted, Kind, a-node, an-edge, Piece, root, edge, below, Node, Edge, top, point, parent, child, Ends, Clean}
-use Rattle.layout.proofs.Points.{Between, at-itself, Along, PointOf, Lower, Order, Apart, Untangled, bare, fork}
+use Rattle.layout.proofs.Points.{Between, at-itself, Along, Lower, Order, Apart, Untangled, bare, fork}
 use Rattle.layout.proofs.Meet.{Alike, alike, node-ends, untangled-clean}
 use Rattle.layout.proofs.Motions.{untangled-shift, untangled-flip}
 
