@@ -5,7 +5,7 @@ use measure::roles::Role;
 use measure::roles::role_at;
 ghost use mathlib.Core.Path.{_≡_};
 ghost use Prim.Native.Nat.{_+_, _*_, _<_, max};
-ghost use lib.ListN.{length, getD};
+ghost use lib.ListN.{length};
 ghost use Rattle.table.specs.Table.{left, right};
 ghost use Rattle.layout.specs.Spine.{Role as LayoutRole, knee, ordinary, switch};
 ghost use Rattle.layout.specs.Held.{inwards as inwardsOf, far};
