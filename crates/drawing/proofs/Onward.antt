@@ -3,18 +3,17 @@
 use mathlib.Core.Path.{_≡_, refl, ap, sym, subst, _∙_}
 use mathlib.Core.Bool.{Bool, true, false}
 use mathlib.Core.List.{List, [], _∷_}
-use Prim.Native.Nat.{ℕ, zero, suc, _+_, _*_, _-_, _≤_, _<_, max}
+use Prim.Native.Nat.{ℕ, _+_, _≤_, max}
 use native.Mathlib.Omega.{arith}
 use lib.Dec.{T}
 use lib.ListN.{getD}
 use Rattle.segment.specs.Segment.{at}
-use Rattle.table.specs.Lists.{count}
 use Rattle.table.specs.Table.{Side, left, right}
-use Rattle.table.specs.Tree.{Tree, none, node, size, nodes}
-use Rattle.layout.specs.Layout.{Layout, blank}
+use Rattle.table.specs.Tree.{Tree, none, node}
+use Rattle.layout.specs.Layout.{Layout}
 use Rattle.layout.specs.Spine.{SpineNode, hangs, Role, knee, ordinary, switch, opposite, seen, runRole, roleAfter, handAfter}
 use Rattle.layout.specs.Drawing.{Rest, join}
-use Rattle.layout.specs.Held.{inwards, hungOn, heightOn, widthOn, spineOn, roleNext, far, lay}
+use Rattle.layout.specs.Held.{inwards, hungOn, heightOn, widthOn, roleNext, far, lay}
 use Rattle.layout.proofs.Spines.{spineTree}
 use Rattle.layout.proofs.Held.{bottom, Inside, Rooms, knee-room, ordinary-room, switch-room, inside-less}
 use Rattle.measure.specs.Prepared.{codeOf, Prepared, Along, no-spine, onward}

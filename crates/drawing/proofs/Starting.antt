@@ -1,32 +1,30 @@
 -- The two ends of a spine: the walk at its first node, a knee, where all of it is left; and where it has ended, and only the pending child is left.
 use mathlib.Core.Path.{_≡_, refl, ap, sym, subst, subst₂, _∙_}
-use mathlib.Core.Bool.{Bool, true, false}
+use mathlib.Core.Bool.{Bool}
 use mathlib.Core.Logic.{inl, inr}
-use mathlib.Core.List.{List, [], _∷_}
-use Prim.Native.Nat.{ℕ, zero, suc, _+_, _*_, _-_, _≤_, _<_, max}
+use mathlib.Core.List.{List, []}
+use Prim.Native.Nat.{ℕ, _+_, _≤_, _<_}
 use native.Mathlib.Omega.{arith}
 use lib.Dec.{T}
 use lib.ListN.{length, getD}
-use Rattle.table.specs.Lists.{member, count}
-use Rattle.table.specs.Table.{Side, left, right, leftOf, rightOf, linkOf, chain}
+use Rattle.table.specs.Lists.{count}
+use Rattle.table.specs.Table.{Side, left, right, leftOf, rightOf, linkOf}
 use Rattle.table.specs.Tree.{Tree, none, node, size, nodes, treeAt}
 use Rattle.table.specs.Refusal.{fault}
 use Rattle.table.proofs.Lists.{repeats-count}
 use Rattle.table.proofs.Chain.{Chained}
 use Rattle.table.proofs.Accepted.{tree-none, nodes-distinct, down, tree-unfolds}
-use Rattle.layout.specs.Layout.{Layout, blank, placed, width}
-use Rattle.layout.specs.Spine.{SpineNode, hangs, Role, knee}
+use Rattle.layout.specs.Layout.{Layout}
+use Rattle.layout.specs.Spine.{SpineNode, Role, knee}
 use Rattle.layout.specs.Drawing.{draw}
-use Rattle.layout.specs.Held.{facing, inwards, hungOn, heightOn, widthOn, widestOn, spineOn, lay, Frame, Fit}
-use Rattle.layout.proofs.Rows.{shape}
-use Rattle.layout.proofs.Theorem.{promise}
+use Rattle.layout.specs.Held.{facing, inwards, hungOn, heightOn, widthOn, widestOn, spineOn, lay, Frame}
 use Rattle.layout.proofs.Held.{bottom, Inside, inside-less, hung-inside, rooms-law, inside-fits, hung-law, bottom-law}
 use Rattle.measure.specs.Sized.{Named}
 use Rattle.measure.specs.Forked.{sideOf}
 use Rattle.measure.specs.Prepared.{Prepared, Along, no-spine, a-spine}
 use Rattle.drawing.specs.Answer.{store}
 use Rattle.drawing.specs.declared.place.Walk.{Walk}
-use Rattle.drawing.specs.Placing.{Hanging, Hung, kept, finish, finished, Ready, handOf, spineFrom, Going, left-over, Stepped, rowBelow, remaining}
+use Rattle.drawing.specs.Placing.{Hanging, Hung, kept, finish, finished, handOf, spineFrom, Going, unplaced, Stepped, rowBelow, remaining}
 use Rattle.drawing.proofs.Shapes.{count-node, hung-none, height-none, width-none, width-node}
 use Rattle.drawing.proofs.Onward.{finished-none}
 
@@ -43,7 +41,7 @@ some-node t ok k c = omega (arith, ap size (tree-unfolds t ok k c))
 pub hung-nothing : (t : List ℕ) (s : Side) (k e top : ℕ) (p : List ℕ) → k ≡ 0 → Hung t s k e top p top p
 unfolding store
 hung-nothing t s k e top p z = record {
-  lowest = omega (arith, ap (heightOn s) nothing, height-none s);
+  ends = omega (arith, ap (heightOn s) nothing, height-none s);
   stored = sym (ap (λ (T : Tree). store (hungOn s e top T) p) nothing ∙ ap (λ (L : Layout). store L p) (hung-none s e top));
 }
   where
@@ -157,7 +155,7 @@ module _ (t roles gaps : List ℕ) (ok : fault t ≡ 0) (b : Bool) (root edge to
   bottom-start = rw (tree-none t, height-none s) (bottom-law s top (treeAt t root) some)
 
   pub hung-start : (p p′ : List ℕ) (below : ℕ) → (below ≡ rowBelow t knee start) × (p′ ≡ remaining t knee start p) → Hung t s root edge top p below p′
-  hung-start p p′ below e = record { lowest = e .0 ∙ bottom-start; stored = e .1 ∙ remaining-start p }
+  hung-start p p′ below e = record { ends = e .0 ∙ bottom-start; stored = e .1 ∙ remaining-start p }
 
 -- ---- on the way
 
@@ -166,7 +164,7 @@ pub record Walked (t roles gaps : List ℕ) (p₀ : List ℕ) (w₀ : Walk) (p :
   pub going : Going t roles gaps role w
   pub same : remaining t role w p ≡ remaining t knee w₀ p₀
   pub as-deep : rowBelow t role w ≡ rowBelow t knee w₀
-  pub fewer : left-over t w ≤ size (treeAt t (w₀ .at))
+  pub fewer : unplaced t w ≤ size (treeAt t (w₀ .at))
   pub one-less : size (treeAt t (w .pending)) < size (treeAt t (w₀ .at))
   pub kept : length p ≡ length p₀
 
@@ -199,4 +197,4 @@ module _ (t roles gaps : List ℕ) where
   pub walked-end : (p₀ : List ℕ) (w₀ : Walk) (p : List ℕ) (w : Walk) (p′ : List ℕ) (below : ℕ) → (g : Walked t roles gaps p₀ w₀ p w) → w .at ≡ 0 →
       Hung t (handOf w) (w .pending) (inwards (handOf w) (w .edge) 1) (w .lowest + 1) p below p′ → (below ≡ rowBelow t knee w₀) × (p′ ≡ remaining t knee w₀ p₀)
   walked-end p₀ w₀ p w p′ below g z d =
-      (d .lowest ∙ (sym (bottom-end t roles gaps w z (g .role)) ∙ g .as-deep), d .stored ∙ (sym (remaining-end t roles gaps w z (g .role) p) ∙ g .same))
+      (d .ends ∙ (sym (bottom-end t roles gaps w z (g .role)) ∙ g .as-deep), d .stored ∙ (sym (remaining-end t roles gaps w z (g .role) p) ∙ g .same))

@@ -2,17 +2,17 @@
 use mathlib.Core.Path.{_≡_, refl, ap, ap₂, sym, subst, subst₂, _∙_}
 use mathlib.Core.Bool.{Bool, true, false, not}
 use mathlib.Core.Logic.{inl, inr}
-use mathlib.Core.List.{List, [], _∷_}
-use Prim.Native.Nat.{ℕ, zero, suc, _+_, _*_, _-_, _≤_, _<_, max}
+use mathlib.Core.List.{List, _∷_}
+use Prim.Native.Nat.{ℕ, _+_, _*_, _-_, _≤_, _<_, max}
 use native.Mathlib.Omega.{arith}
 use lib.ListN.{length, getD}
 use Rattle.table.specs.Lists.{count}
 use Rattle.table.specs.Table.{Side, left, right}
-use Rattle.table.specs.Tree.{Tree, none, node, size, nodes, treeAt}
+use Rattle.table.specs.Tree.{Tree, none, size, nodes, treeAt}
 use Rattle.table.proofs.Lists.{same}
 use Rattle.table.proofs.Accepted.{tree-none, records-bounds, chain-within}
 use Rattle.layout.specs.Spine.{SpineNode, hangs, Role, knee, ordinary, switch, opposite}
-use Rattle.layout.specs.Held.{inwards, hungOn, heightOn, widthOn, spineOn, roleNext, far}
+use Rattle.layout.specs.Held.{inwards, hungOn, heightOn, spineOn, roleNext, far}
 use Rattle.layout.proofs.Spines.{over, spineTree}
 use Rattle.layout.proofs.Held.{bottom, Inside, inside-less}
 use Rattle.measure.specs.Sized.{Named}
@@ -20,10 +20,11 @@ use Rattle.measure.specs.Forked.{sideOf, Forked}
 use Rattle.measure.specs.Prepared.{codeOf}
 use Rattle.measure.specs.declared.roles.Role.{Role as Coded}
 use Rattle.measure.specs.Roles.{handOf as sideOfCoded, roleOf}
+use Rattle.measure.proofs.Choices.{code-same, code-small}
 use Rattle.drawing.specs.Answer.{store}
 use Rattle.drawing.specs.declared.place.Walk.{Walk}
-use Rattle.drawing.specs.Placing.{isKnee, isSwitch, point, Given, Hanging, Hung, finished, Ready, walkTo, handOf, spineFrom, Going, Stepped}
-use Rattle.drawing.proofs.Shapes.{Disjoint, count-node, tree-spine, height-none, width-none}
+use Rattle.drawing.specs.Placing.{isKnee, isSwitch, point, Given, Hanging, Hung, finished, Ready, walkTo, handOf, Going, Stepped}
+use Rattle.drawing.proofs.Shapes.{Disjoint, count-node, tree-spine}
 use Rattle.drawing.proofs.Columns.{inside-edge, inside-count, side-not}
 use Rattle.drawing.proofs.Onward.{knee-far, knee-near, ordinary-on, switch-over, bottom-far, bottom-near, bottom-over, along-role, along-hung, at-knee-room, at-ordinary-room, at-switch-width, at-switch-room, ready-far, ready-near, ready-ordinary, ready-switch, rows-far, rows-knee, rows-ordinary, rows-switch}
 
@@ -36,18 +37,10 @@ pub size-none : (t : List ℕ) → size (treeAt t 0) ≡ 0
 unfolding size
 size-none t = ap size (tree-none t)
 
-count-none : (t : List ℕ) (k : ℕ) → count k (nodes (treeAt t 0)) ≡ 0
-unfolding nodes count
-count-none t k = ap (λ (T : Tree). count k (nodes T)) (tree-none t)
-
--- A record has its place in the placements, and in the lists.
+-- A record has its place in the placements.
 pub entry-within : (t sizes roles gaps p : List ℕ) → Given t sizes roles gaps p → (k : ℕ) → Named t k → 2 * k + 1 < length p
 entry-within t sizes roles gaps p g k (inl e) = omega (arith, g .enough, records-bounds t (g .sound))
 entry-within t sizes roles gaps p g k (inr c) = omega (arith, g .enough, chain-within t (g .sound) k c)
-
-pub named-within : (t sizes roles gaps p : List ℕ) → Given t sizes roles gaps p → (k : ℕ) → Named t k → k < 4097
-named-within t sizes roles gaps p g k (inl e) = omega arith
-named-within t sizes roles gaps p g k (inr c) = omega (arith, records-bounds t (g .sound), chain-within t (g .sound) k c)
 
 -- Placements of the same number serve as well.
 pub given-kept : (t sizes roles gaps p p′ : List ℕ) → length p′ ≡ length p → Given t sizes roles gaps p → Given t sizes roles gaps p′
@@ -56,30 +49,7 @@ given-kept t sizes roles gaps p p′ e g = record { sound = g .sound; sized = g 
 pub hanging-as : (t roles gaps : List ℕ) (s : Side) (k e c top top′ : ℕ) → top′ ≡ top → Hanging t roles gaps s k e c top → Hanging t roles gaps s k e c top′
 hanging-as t roles gaps s k e c top top′ q h = subst (Hanging t roles gaps s k e c) (sym q) h
 
--- ---- roles by their numbers
-
-decode : ℕ → Role
-decode zero = knee
-decode (suc zero) = ordinary
-decode (suc (suc zero)) = switch
-decode (suc (suc (suc n))) = decode n
-
-code-role : (a : Side) (o : Role) → decode (codeOf a o) ≡ o
-unfolding decode
-code-role left knee = refl
-code-role left ordinary = refl
-code-role left switch = refl
-code-role right knee = refl
-code-role right ordinary = refl
-code-role right switch = refl
-
-code-below : (a : Side) (o : Role) → codeOf a o < 6
-code-below left knee = omega arith
-code-below left ordinary = omega arith
-code-below left switch = omega arith
-code-below right knee = omega arith
-code-below right ordinary = omega arith
-code-below right switch = omega arith
+-- ---- roles by the code's tests
 
 pub knee-is : (o : Role) → isKnee o ≡ true → o ≡ knee
 knee-is knee e = refl
@@ -136,10 +106,10 @@ module _ (t roles gaps : List ℕ) (w : Walk) (spine hung : ℕ) (h : Side) (f :
   kept-role o g = along-role (here o g .along)
 
   role-is : (c : Coded) (q o : Role) → getD roles (w .at) 0 ≡ codeOf (sideOfCoded c) (roleOf c) → roleOf c ≡ q → Going t roles gaps o w → o ≡ q
-  role-is c q o e f g = sym (code-role a o) ∙ (ap decode (sym (kept-role o g) ∙ e) ∙ (code-role (sideOfCoded c) (roleOf c) ∙ f))
+  role-is c q o e f g = code-same a (sideOfCoded c) o (roleOf c) (sym (kept-role o g) ∙ e) .1 ∙ f
 
   pub role-below : (o : Role) → Going t roles gaps o w → getD roles (w .at) 0 < 6
-  role-below o g = omega (arith, kept-role o g, code-below a o)
+  role-below o g = omega (arith, kept-role o g, code-small a o)
 
   pub going-as : (c : Coded) (q : Role) → getD roles (w .at) 0 ≡ codeOf (sideOfCoded c) (roleOf c) → roleOf c ≡ q → (o : Role) × Going t roles gaps o w → Going t roles gaps q w
   going-as c q e f g = subst (λ (r : Role). Going t roles gaps r w) (role-is c q (g .0) e f (g .1)) (g .1)
@@ -254,29 +224,29 @@ module _ (t roles gaps : List ℕ) (w : Walk) (spine hung : ℕ) (h : Side) (f :
   stepped-as : (o : Role) (p : List ℕ) (w₁ w₂ : Walk) (p₁ p₂ : List ℕ) → w₂ ≡ w₁ → p₂ ≡ p₁ → Stepped t roles gaps o w p w₁ p₁ → Stepped t roles gaps o w p w₂ p₂
   stepped-as o p w₁ w₂ p₁ p₂ d e m = subst₂ (Stepped t roles gaps o w p) (sym d) (sym e) m
 
-  pub left-far : (p p₁ p₂ : List ℕ) (low below : ℕ) (w′ : Walk) → low ≡ H → p₁ ≡ point (w .at) (w .edge) (w .row) p → Hung t a hung (inwards a (w .edge) 1) (low + 1) p₁ below p₂ →
+  pub after-far : (p p₁ p₂ : List ℕ) (low below : ℕ) (w′ : Walk) → low ≡ H → p₁ ≡ point (w .at) (w .edge) (w .row) p → Hung t a hung (inwards a (w .edge) 1) (low + 1) p₁ below p₂ →
       w′ ≡ walkTo w spine below (below - 1) 0 (w .right) (w .edge) → far a h ≡ true → Going t roles gaps knee w → Stepped t roles gaps knee w p w′ p₂
-  left-far p p₁ p₂ low below w′ l q d v x g =
-      stepped-as knee p _ _ _ _ (v ∙ ap₂ (λ (m n : ℕ). walkTo w spine m n 0 (w .right) (w .edge)) (omega (arith, d .lowest)) (omega (arith, d .lowest)))
+  after-far p p₁ p₂ low below w′ l q d v x g =
+      stepped-as knee p _ _ _ _ (v ∙ ap₂ (λ (m n : ℕ). walkTo w spine m n 0 (w .right) (w .edge)) (omega (arith, d .ends)) (omega (arith, d .ends)))
       (d .stored ∙ cc) (stepped-far p x g)
 
-  pub left-near : (p p₁ : List ℕ) (low : ℕ) (w′ : Walk) → low ≡ H → p₁ ≡ point (w .at) (w .edge) (w .row) p → w′ ≡ walkTo w spine (low + 1) low hung (w .right) (w .edge) →
+  pub after-near : (p p₁ : List ℕ) (low : ℕ) (w′ : Walk) → low ≡ H → p₁ ≡ point (w .at) (w .edge) (w .row) p → w′ ≡ walkTo w spine (low + 1) low hung (w .right) (w .edge) →
       far a h ≡ false → Going t roles gaps knee w → Stepped t roles gaps knee w p w′ p₁
-  left-near p p₁ low w′ l q v x g = stepped-as knee p _ _ _ _ (v ∙ ap (λ (m : ℕ). walkTo w spine (m + 1) m hung (w .right) (w .edge)) l) q (stepped-near p x g)
+  after-near p p₁ low w′ l q v x g = stepped-as knee p _ _ _ _ (v ∙ ap (λ (m : ℕ). walkTo w spine (m + 1) m hung (w .right) (w .edge)) l) q (stepped-near p x g)
 
-  pub left-ordinary : (p p₁ p₂ : List ℕ) (column below next : ℕ) (w′ : Walk) → column ≡ inwards a (w .edge) 1 → p₁ ≡ point (w .at) column (w .row) p →
+  pub after-ordinary : (p p₁ p₂ : List ℕ) (column below next : ℕ) (w′ : Walk) → column ≡ inwards a (w .edge) 1 → p₁ ≡ point (w .at) column (w .row) p →
       Hung t a hung (inwards a (w .edge) 2) (w .row + 1) p₁ below p₂ → next ≡ max (w .row + 1) (below - 1) → w′ ≡ walkTo w spine next (below - 1) (w .pending) (w .right) (w .edge) →
       Going t roles gaps ordinary w → Stepped t roles gaps ordinary w p w′ p₂
-  left-ordinary p p₁ p₂ column below next w′ c q d n v g =
-      stepped-as ordinary p _ _ _ _ (v ∙ ap₂ (λ (m n : ℕ). walkTo w spine m n (w .pending) (w .right) (w .edge)) (omega (arith, d .lowest)) (omega (arith, d .lowest)))
+  after-ordinary p p₁ p₂ column below next w′ c q d n v g =
+      stepped-as ordinary p _ _ _ _ (v ∙ ap₂ (λ (m n : ℕ). walkTo w spine m n (w .pending) (w .right) (w .edge)) (omega (arith, d .ends)) (omega (arith, d .ends)))
       (d .stored ∙ cc) (stepped-ordinary p g)
 
-  pub left-switch : (p p₁ p₂ p₃ : List ℕ) (column under below other : ℕ) → column ≡ inwards a (w .edge) 1 → p₁ ≡ point (w .at) column (w .row) p → Hung t a hung (inwards a (w .edge) 1) (w .row + 1) p₁ under p₂ →
+  pub after-switch : (p p₁ p₂ p₃ : List ℕ) (column under below other : ℕ) → column ≡ inwards a (w .edge) 1 → p₁ ≡ point (w .at) column (w .row) p → Hung t a hung (inwards a (w .edge) 1) (w .row + 1) p₁ under p₂ →
       Hung t a (w .pending) (inwards a (w .edge) 1) under p₂ below p₃ → other ≡ inwards a (w .edge) (w .gap + 2) → Going t roles gaps switch w →
       Stepped t roles gaps switch w p (walkTo w spine (w .row + 1) (below - 1) 0 (not (w .right)) other) p₃
-  left-switch p p₁ p₂ p₃ column under below other c q d d′ o g =
-      stepped-as switch p _ _ _ _ (ap₂ (λ (m n : ℕ). walkTo w spine (w .row + 1) m 0 (not (w .right)) n) (omega (arith, d .lowest, d′ .lowest)) o)
+  after-switch p p₁ p₂ p₃ column under below other c q d d′ o g =
+      stepped-as switch p _ _ _ _ (ap₂ (λ (m n : ℕ). walkTo w spine (w .row + 1) m 0 (not (w .right)) n) (omega (arith, d .ends, d′ .ends)) o)
       (d′ .stored ∙ cc (under-there)) (stepped-switch p g)
     where
       under-there : under ≡ w .row + heightOn a S + 1
-      under-there = omega (arith, d .lowest)
+      under-there = omega (arith, d .ends)

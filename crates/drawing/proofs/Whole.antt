@@ -1,8 +1,8 @@
 -- The whole tree of a table: what is asked before it is drawn, and the drawer's answer from what is drawn. Rests on the laws of accepted tables and of the drawing.
-use mathlib.Core.Path.{_≡_, refl, ap, ap₂, sym, subst, _∙_}
+use mathlib.Core.Path.{_≡_, ap, sym, _∙_}
 use mathlib.Core.Logic.{inl, inr, ⊎-elim}
 use mathlib.Core.List.{List, [], _∷_}
-use Prim.Native.Nat.{ℕ, zero, suc, _+_, _*_, _≤_, _<_}
+use Prim.Native.Nat.{ℕ, _*_, _≤_, _<_}
 use native.Mathlib.Omega.{arith}
 use lib.Dec.{T}
 use lib.ListN.{length, getD}
@@ -13,8 +13,8 @@ use Rattle.table.specs.Refusal.{fault, refusal}
 use Rattle.table.specs.declared.Reading.{Reading}
 use Rattle.table.specs.Reading.{Sized as Listed, ReadOf}
 use Rattle.table.proofs.Chain.{Chained}
-use Rattle.table.proofs.Accepted.{Empty, refusal-none, tree-none, records-bounds, chain-within, chain-length, root, size-chain}
-use Rattle.layout.specs.Layout.{Layout, blank, width, height}
+use Rattle.table.proofs.Accepted.{refusal-none, tree-none, records-bounds, chain-within, chain-length, root, size-chain}
+use Rattle.layout.specs.Layout.{Layout, width, height}
 use Rattle.layout.specs.Drawing.{draw, drawing}
 use Rattle.layout.specs.Held.{facing, hungOn, heightOn, widthOn}
 use Rattle.layout.proofs.Held.{height-size, draw-hung}
@@ -24,7 +24,7 @@ use Rattle.measure.specs.Prepared.{Prepared}
 use Rattle.drawing.specs.declared.Plan.{Plan}
 use Rattle.drawing.specs.declared.Drawn.{Drawn}
 use Rattle.drawing.specs.Answer.{store, emptyPlan, planOf, drawnOf, placedIn}
-use Rattle.drawing.specs.Placing.{Given, Hanging, Hung}
+use Rattle.drawing.specs.Placing.{Hanging, Hung}
 use Rattle.drawing.proofs.Answered.{accepted, refused}
 
 module _ (t : List ℕ) (ok : fault t ≡ 0) (k : ℕ) (e : k ≡ rootOf t) where
@@ -42,7 +42,7 @@ module _ (t : List ℕ) (ok : fault t ≡ 0) (k : ℕ) (e : k ≡ rootOf t) wher
 
   -- Nodes, width and height are 16-bit numbers.
   pub small-plan : (p p′ : List ℕ) (n w h : ℕ) → n ≡ length (chain t) → w ≡ widthOn left (treeAt t k) → Hung t left k 0 0 p h p′ → (n ≤ 4096) × ((w ≤ 37) × (h ≤ 4096))
-  small-plan p p′ n w h f g d = (omega (arith, few-nodes), (omega (arith, width-small left (treeAt t k) few-below), omega (arith, d .lowest, height-size left (treeAt t k), few-below)))
+  small-plan p p′ n w h f g d = (omega (arith, few-nodes), (omega (arith, width-small left (treeAt t k) few-below), omega (arith, d .ends, height-size left (treeAt t k), few-below)))
 
 -- The plan and the placements of what is drawn from the root on.
 pub plan-drawn : (t p p′ : List ℕ) (k n w h : ℕ) → k ≡ rootOf t → n ≡ length (chain t) → w ≡ widthOn left (treeAt t k) → Hung t left k 0 0 p h p′ →
@@ -51,7 +51,7 @@ unfolding planOf widthOn heightOn facing
 plan-drawn t p p′ k n w h e f g d = (
   let r : treeAt t k ≡ tree t = ap (treeAt t) e in
       let x : w ≡ width (draw (tree t)) = g ∙ ap (λ (T : Tree). width (draw T)) r in
-      let y : h ≡ height (draw (tree t)) = omega (arith, d .lowest, ap (λ (T : Tree). height (draw T)) r) in
+      let y : h ≡ height (draw (tree t)) = omega (arith, d .ends, ap (λ (T : Tree). height (draw T)) r) in
       cc,
   d .stored ∙ ap (λ (L : Layout). store L p) (ap (λ (n : ℕ). hungOn left 0 0 (treeAt t n)) e ∙ sym (draw-hung (tree t))),
 )

@@ -3,15 +3,15 @@
 use mathlib.Core.Path.{_≡_}
 use mathlib.Core.Bool.{Bool, true, false}
 use mathlib.Core.List.{List, [], _∷_}
-use Prim.Native.Nat.{ℕ, suc, _+_, _*_, _≤_, _<_, max}
+use Prim.Native.Nat.{ℕ, _+_, _*_, _≤_, _<_}
 use lib.ListN.{length, set}
 use Rattle.table.specs.Lists.{count}
-use Rattle.table.specs.Table.{Side, left, right, records}
+use Rattle.table.specs.Table.{Side, records}
 use Rattle.table.specs.Tree.{Tree, none, size, nodes, treeAt}
 use Rattle.table.specs.Refusal.{fault}
-use Rattle.layout.specs.Spine.{SpineNode, hangs, Role, knee, ordinary, switch, opposite}
+use Rattle.layout.specs.Spine.{SpineNode, Role, knee, ordinary, switch}
 use Rattle.layout.specs.Drawing.{Rest}
-use Rattle.layout.specs.Held.{inwards, hungOn, heightOn, widthOn, spineOn, roleNext, far, lay}
+use Rattle.layout.specs.Held.{inwards, hungOn, heightOn, widthOn, spineOn, lay}
 use Rattle.layout.proofs.Held.{bottom, Inside, Rooms}
 use Rattle.measure.specs.Sized.{Named, Sized}
 use Rattle.measure.specs.Forked.{sideOf}
@@ -51,7 +51,7 @@ pub record Hanging (t roles gaps : List ℕ) (s : Side) (k e c top : ℕ) : Type
 
 -- It is drawn: the placements, and the first row below.
 pub record Hung (t : List ℕ) (s : Side) (k e top : ℕ) (p : List ℕ) (below : ℕ) (p′ : List ℕ) : Type 0 where
-  pub lowest : below ≡ top + heightOn s (treeAt t k)
+  pub ends : below ≡ top + heightOn s (treeAt t k)
   pub stored : p′ ≡ store (hungOn s e top (treeAt t k)) p
 
 -- ---- what is left of a spine, from a node of the hand a and the role o on, in row r; H is the lowest row used before it
@@ -84,6 +84,7 @@ pub record Ready (roles gaps : List ℕ) (W : ℕ) (a : Side) (e : ℕ) (o : Rol
 abbrev pub walkTo : Walk → (at row lowest pending : ℕ) → Bool → ℕ → Walk
 walkTo w at row lowest pending hand edge = record { at = at; row = row; lowest = lowest; pending = pending; right = hand; edge = edge; gap = w .gap; mirrored = w .mirrored }
 
+-- The hand that it is on, the spine from its node on, the first row below all that is left, and the placements when that is drawn.
 abbrev pub handOf : Walk → Side
 handOf w = sideOf (w .right)
 
@@ -96,21 +97,22 @@ rowBelow t o w = bottom (handOf w) o (w .lowest) (w .row) (heightOn (handOf w) (
 abbrev pub remaining : List ℕ → Role → Walk → List ℕ → List ℕ
 remaining t o w p = finished (w .gap) (handOf w) (w .edge) o (w .lowest) (w .row) (treeAt t (w .pending)) (spineFrom t w) p
 
+-- Drawing can go on: its node and the pending child are chained records or zero, their subtrees have no record twice, and there is room.
 pub record Going (t roles gaps : List ℕ) (o : Role) (w : Walk) : Type 0 where
   pub named : Named t (w .at)
   pub named-pending : Named t (w .pending)
   pub once : (k : ℕ) → count k (nodes (treeAt t (w .pending))) + count k (nodes (treeAt t (w .at))) ≤ 1
   pub ready : Ready roles gaps (w .gap) (handOf w) (w .edge) o (w .lowest) (w .row) (treeAt t (w .pending)) (spineFrom t w)
 
--- How many nodes are left.
-abbrev pub left-over : List ℕ → Walk → ℕ
-left-over t w = size (treeAt t (w .at)) + size (treeAt t (w .pending))
+-- How many nodes are not placed yet.
+abbrev pub unplaced : List ℕ → Walk → ℕ
+unplaced t w = size (treeAt t (w .at)) + size (treeAt t (w .pending))
 
--- One node further: what is left gives the same.
+-- One node further: what is left gives the same placements and ends in the same row, and is less.
 pub record Stepped (t roles gaps : List ℕ) (o : Role) (w : Walk) (p : List ℕ) (w′ : Walk) (p′ : List ℕ) : Type 0 where
   pub role : Role
   pub going : Going t roles gaps role w′
   pub same : remaining t role w′ p′ ≡ remaining t o w p
   pub as-deep : rowBelow t role w′ ≡ rowBelow t o w
-  pub fewer : left-over t w′ < left-over t w
+  pub fewer : unplaced t w′ < unplaced t w
   pub shorter : size (treeAt t (w′ .at)) < size (treeAt t (w .at))

@@ -5,7 +5,7 @@ use measure::roles::Role;
 use measure::roles::role_at;
 ghost use mathlib.Core.Path.{_≡_};
 ghost use Prim.Native.Nat.{_+_, _*_, _<_, max};
-ghost use lib.ListN.{length, getD};
+ghost use lib.ListN.{length};
 ghost use Rattle.table.specs.Table.{left, right};
 ghost use Rattle.layout.specs.Spine.{Role as LayoutRole, knee, ordinary, switch};
 ghost use Rattle.layout.specs.Held.{inwards as inwardsOf, far};
@@ -79,8 +79,9 @@ fn set_point(placements: &mut [u16], k: usize, column: usize, row: usize)
     requires { ⌜ (column < 65536) × (row < 65536) ⌝ }
     ensures { λ _. ⌜ now (placements .exit) ≡ point k column row (now (placements .entry)) ⌝ }
 {
-    placements[2 * k] = column as u16;
-    placements[2 * k + 1] = row as u16;
+    let place = 2 * k;
+    placements[place] = column as u16;
+    placements[place + 1] = row as u16;
 }
 
 // The walk at the next node, on the same hand.

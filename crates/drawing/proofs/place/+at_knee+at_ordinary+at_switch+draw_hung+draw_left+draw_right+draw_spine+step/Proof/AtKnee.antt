@@ -3,7 +3,7 @@ use mathlib.Core.Path.{ap, sym, _∙_}
 use Prim.Native.Nat.{ℕ, _+_}
 use borrow.Author.Needs.{needs}
 use native.Mathlib.Omega.{arith}
-use Rattle.drawing.proofs.Walking.{entry-within, given-kept, hanging-as, edge-knee, hanging-far, left-far, left-near}
+use Rattle.drawing.proofs.Walking.{entry-within, given-kept, hanging-as, edge-knee, hanging-far, after-far, after-near}
 use Rattle.drawing.proofs.place.at_knee.Reads as reads
 use Rattle.drawing.proofs.place.+at_knee+at_ordinary+at_switch+draw_hung+draw_left+draw_right+draw_spine+step.Lts-at_knee as lts
 use Rattle.drawing.proofs.place.+at_knee+at_ordinary+at_switch+draw_hung+draw_left+draw_right+draw_spine+step.Proof.Measures.{at-knee-claims, at-knee-at}
@@ -39,7 +39,7 @@ module _ (t : ℕ) where
       )
 
   sub-onward : lts.Need-sub-onward (at-knee-claims t) (at-knee-at t) reads.Post
-  sub-onward c = omega (arith, c .before .before .draw-hung .ensures .lowest)
+  sub-onward c = omega (arith, c .before .before .draw-hung .ensures .ends)
 
   onward-requires : lts.Need-onward-requires (at-knee-claims t) (at-knee-at t) reads.Post
   onward-requires c κs = tt
@@ -55,7 +55,7 @@ module _ (t : ℕ) where
       let most = far .before in
       let point = most .before .before .before in
       let s = point .before .before .before .before .before .before .before in
-      left-far _ _ _ _ _ _ _ (s .pre .1 .1 .1) _ _ _ _ _ _ (most .greater .ensures) (point .set-point .ensures) (hung .draw-hung .ensures) (c .onward .ensures) (sym (far .is-far .ensures) ∙ test1 .if1 .taken) (s .pre .1 .1 .0)
+      after-far _ _ _ _ _ _ _ (s .pre .1 .1 .1) _ _ _ _ _ _ (most .greater .ensures) (point .set-point .ensures) (hung .draw-hung .ensures) (c .onward .ensures) (sym (far .is-far .ensures) ∙ test1 .if1 .taken) (s .pre .1 .1 .0)
 
   onward-requires-2 : lts.Need-onward-requires-2 (at-knee-claims t) (at-knee-at t) reads.Post
   onward-requires-2 c κs = tt
@@ -68,7 +68,7 @@ module _ (t : ℕ) where
       let most = c .before .before .before in
       let point = most .before .before .before in
       let s = point .before .before .before .before .before .before .before in
-      left-near _ _ _ _ _ _ _ (s .pre .1 .1 .1) _ _ _ _ (most .greater .ensures) (point .set-point .ensures) (c .onward2 .ensures) (sym (c .before .before .is-far .ensures) ∙ c .before .if1 .left) (s .pre .1 .1 .0)
+      after-near _ _ _ _ _ _ _ (s .pre .1 .1 .1) _ _ _ _ (most .greater .ensures) (point .set-point .ensures) (c .onward2 .ensures) (sym (c .before .before .is-far .ensures) ∙ c .before .if1 .left) (s .pre .1 .1 .0)
 
 pub at-knee-closed : {M : Type 1} (t : ℕ) → lts.Closed (at-knee-claims t) (at-knee-at t) reads.Post M
 at-knee-closed t =

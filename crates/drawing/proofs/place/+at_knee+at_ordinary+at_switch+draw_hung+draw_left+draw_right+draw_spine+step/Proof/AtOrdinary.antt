@@ -2,7 +2,7 @@
 use Prim.Native.Nat.{ℕ}
 use borrow.Author.Needs.{needs}
 use native.Mathlib.Omega.{arith}
-use Rattle.drawing.proofs.Walking.{entry-within, given-kept, column-ordinary, rows-at-ordinary, hanging-ordinary, left-ordinary}
+use Rattle.drawing.proofs.Walking.{entry-within, given-kept, column-ordinary, rows-at-ordinary, hanging-ordinary, after-ordinary}
 use Rattle.drawing.proofs.place.at_ordinary.Reads as reads
 use Rattle.drawing.proofs.place.+at_knee+at_ordinary+at_switch+draw_hung+draw_left+draw_right+draw_spine+step.Lts-at_ordinary as lts
 use Rattle.drawing.proofs.place.+at_knee+at_ordinary+at_switch+draw_hung+draw_left+draw_right+draw_spine+step.Proof.Measures.{at-ordinary-claims, at-ordinary-at}
@@ -30,7 +30,7 @@ module _ (t : ℕ) where
       (omega (arith, s .pre .0, s .pre .1 .1 .1 .sizes), (given-kept _ _ _ _ _ _ (point .set-point .kept .0) (s .pre .1 .0), hanging-ordinary _ _ _ _ _ _ _ (s .pre .1 .1 .1) (s .pre .1 .1 .0)))
 
   sub-lowest : lts.Need-sub-lowest (at-ordinary-claims t) (at-ordinary-at t) reads.Post
-  sub-lowest c = omega (arith, c .before .before .draw-hung .ensures .lowest)
+  sub-lowest c = omega (arith, c .before .before .draw-hung .ensures .ends)
 
   greater-requires : lts.Need-greater-requires (at-ordinary-claims t) (at-ordinary-at t) reads.Post
   greater-requires c κs = tt
@@ -47,7 +47,7 @@ module _ (t : ℕ) where
       let point = hung .before .before .before .before .before in
       let in1 = point .before in
       let s = in1 .before .before .before .before .before .before .before in
-      left-ordinary _ _ _ _ _ _ _ (s .pre .1 .1 .1) _ _ _ _ _ _ _ (in1 .inwards .ensures .0) (point .set-point .ensures) (hung .draw-hung .ensures) (c .before .greater .ensures) (c .onward .ensures) (s .pre .1 .1 .0)
+      after-ordinary _ _ _ _ _ _ _ (s .pre .1 .1 .1) _ _ _ _ _ _ _ (in1 .inwards .ensures .0) (point .set-point .ensures) (hung .draw-hung .ensures) (c .before .greater .ensures) (c .onward .ensures) (s .pre .1 .1 .0)
 
 pub at-ordinary-closed : {M : Type 1} (t : ℕ) → lts.Closed (at-ordinary-claims t) (at-ordinary-at t) reads.Post M
 at-ordinary-closed t =

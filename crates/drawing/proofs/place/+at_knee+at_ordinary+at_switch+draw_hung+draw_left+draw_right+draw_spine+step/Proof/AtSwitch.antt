@@ -3,7 +3,7 @@ use mathlib.Core.Path.{_∙_}
 use Prim.Native.Nat.{ℕ, _+_}
 use borrow.Author.Needs.{needs}
 use native.Mathlib.Omega.{arith}
-use Rattle.drawing.proofs.Walking.{entry-within, given-kept, hanging-as, column-switch, gap-at-switch, rows-at-switch, hanging-switch, hanging-pending, left-switch}
+use Rattle.drawing.proofs.Walking.{entry-within, given-kept, hanging-as, column-switch, gap-at-switch, rows-at-switch, hanging-switch, hanging-pending, after-switch}
 use Rattle.drawing.proofs.place.at_switch.Reads as reads
 use Rattle.drawing.proofs.place.+at_knee+at_ordinary+at_switch+draw_hung+draw_left+draw_right+draw_spine+step.Lts-at_switch as lts
 use Rattle.drawing.proofs.place.+at_knee+at_ordinary+at_switch+draw_hung+draw_left+draw_right+draw_spine+step.Proof.Measures.{at-switch-claims, at-switch-at}
@@ -38,14 +38,14 @@ module _ (t : ℕ) where
         omega (arith, s .pre .0, s .pre .1 .1 .1 .sizes),
         (
           given-kept _ _ _ _ _ _ (hung .draw-hung .kept .1 .1 .1 .1 .0 ∙ point .set-point .kept .0) (s .pre .1 .0),
-          hanging-as _ _ _ _ _ _ _ _ _ (hung .draw-hung .ensures .lowest) (hanging-pending _ _ _ _ _ _ _ (s .pre .1 .1 .1) (s .pre .1 .1 .0)),
+          hanging-as _ _ _ _ _ _ _ _ _ (hung .draw-hung .ensures .ends) (hanging-pending _ _ _ _ _ _ _ (s .pre .1 .1 .1) (s .pre .1 .1 .0)),
         ),
       )
 
   sub-lowest : lts.Need-sub-lowest (at-switch-claims t) (at-switch-at t) reads.Post
   sub-lowest c =
       let hung = c .before .before .before .before .before .before in
-      omega (arith, c .before .before .draw-hung2 .ensures .lowest, hung .draw-hung .ensures .lowest)
+      omega (arith, c .before .before .draw-hung2 .ensures .ends, hung .draw-hung .ensures .ends)
 
   add-inwards : lts.Need-add-inwards (at-switch-claims t) (at-switch-at t) reads.Post
   add-inwards c =
@@ -67,7 +67,7 @@ module _ (t : ℕ) where
       let point = hung .before .before .before .before .before in
       let in1 = point .before in
       let s = in1 .before .before .before .before .before .before .before in
-      left-switch _ _ _ _ _ _ _ (s .pre .1 .1 .1) _ _ _ _ _ _ _ _ (in1 .inwards .ensures .0) (point .set-point .ensures) (hung .draw-hung .ensures) (pending .draw-hung2 .ensures) (c .before .inwards2 .ensures .0) (s .pre .1 .1 .0)
+      after-switch _ _ _ _ _ _ _ (s .pre .1 .1 .1) _ _ _ _ _ _ _ _ (in1 .inwards .ensures .0) (point .set-point .ensures) (hung .draw-hung .ensures) (pending .draw-hung2 .ensures) (c .before .inwards2 .ensures .0) (s .pre .1 .1 .0)
 
 pub at-switch-closed : {M : Type 1} (t : ℕ) → lts.Closed (at-switch-claims t) (at-switch-at t) reads.Post M
 at-switch-closed t =

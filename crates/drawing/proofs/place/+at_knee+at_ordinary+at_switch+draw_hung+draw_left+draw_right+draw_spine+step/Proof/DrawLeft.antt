@@ -4,7 +4,7 @@ use mathlib.Core.Bool.{false}
 use Prim.Native.Nat.{ℕ}
 use borrow.Author.Needs.{needs}
 use native.Mathlib.Omega.{arith}
-use Rattle.drawing.proofs.Walking.{named-within}
+use Rattle.measure.proofs.Forks.{named-within}
 use Rattle.drawing.proofs.Starting.{going-start, hung-start}
 use Rattle.drawing.proofs.place.draw_left.Reads as reads
 use Rattle.drawing.proofs.place.+at_knee+at_ordinary+at_switch+draw_hung+draw_left+draw_right+draw_spine+step.Lts-draw_left as lts
@@ -14,12 +14,12 @@ module _ (t : ℕ) where
   mul-gap : lts.Need-mul-gap (draw-left-claims t) (draw-left-at t) reads.Post
   mul-gap c =
       let s = c .before .before .before .before .before in
-      omega (arith, named-within _ _ _ _ _ (s .pre .1 .0) _ (s .pre .1 .1 .0 .named))
+      omega (arith, named-within _ (s .pre .1 .0 .sound) _ (s .pre .1 .1 .0 .named))
 
   shared-slice-read-gap : lts.Need-shared-slice-read-gap (draw-left-claims t) (draw-left-at t) reads.Post
   shared-slice-read-gap c =
       let s = c .before .before .before .before .before .before in
-      omega (arith, named-within _ _ _ _ _ (s .pre .1 .0) _ (s .pre .1 .1 .0 .named), s .pre .1 .0 .long-gaps)
+      omega (arith, named-within _ (s .pre .1 .0 .sound) _ (s .pre .1 .1 .0 .named), s .pre .1 .0 .long-gaps)
 
   cast-gap : lts.Need-cast-gap (draw-left-claims t) (draw-left-at t) reads.Post
   cast-gap c =

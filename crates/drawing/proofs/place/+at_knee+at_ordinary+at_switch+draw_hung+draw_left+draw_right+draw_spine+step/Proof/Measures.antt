@@ -3,7 +3,7 @@ use Prim.Native.Nat.{ℕ, _+_, _*_, _<_}
 use borrow.Fn.Kinds.{In}
 use borrow.Fn.PlainCycle.{Measures, is, falls, and}
 use Rattle.table.specs.Tree.{size, treeAt}
-use Rattle.drawing.specs.Placing.{left-over}
+use Rattle.drawing.specs.Placing.{unplaced}
 use Rattle.drawing.proofs.place.at_knee.Reads as at-knee
 use Rattle.drawing.proofs.place.at_knee.Kinds as at-knee-kinds
 use Rattle.drawing.proofs.place.+at_knee+at_ordinary+at_switch+draw_hung+draw_left+draw_right+draw_spine+step.Lts-at_knee as at-knee-lts
@@ -39,13 +39,13 @@ use Rattle.measure.proofs.roles.role_at.Reads as role-at-reads
 use Rattle.drawing.proofs.place.set_point.Reads as set-point-reads
 
 abbrev pub μ-at-knee : Measures 5 at-knee-kinds.ps ℕ
-μ-at-knee κs a = 5 * left-over (a .0 .now) (a .1 .1 .1 .1 .1 .1 .0)
+μ-at-knee κs a = 5 * unplaced (a .0 .now) (a .1 .1 .1 .1 .1 .1 .0)
 
 abbrev pub μ-at-ordinary : Measures 5 at-ordinary-kinds.ps ℕ
-μ-at-ordinary κs a = 5 * left-over (a .0 .now) (a .1 .1 .1 .1 .1 .1 .0)
+μ-at-ordinary κs a = 5 * unplaced (a .0 .now) (a .1 .1 .1 .1 .1 .1 .0)
 
 abbrev pub μ-at-switch : Measures 5 at-switch-kinds.ps ℕ
-μ-at-switch κs a = 5 * left-over (a .0 .now) (a .1 .1 .1 .1 .1 .1 .0)
+μ-at-switch κs a = 5 * unplaced (a .0 .now) (a .1 .1 .1 .1 .1 .1 .0)
 
 abbrev pub μ-draw-hung : Measures 5 draw-hung-kinds.ps ℕ
 μ-draw-hung κs a = 5 * size (treeAt (a .0 .now) (a .1 .1 .1 .1 .1 .1 .0)) + 4
@@ -60,7 +60,7 @@ abbrev pub μ-draw-spine : Measures 5 draw-spine-kinds.ps ℕ
 μ-draw-spine κs a = 5 * size (treeAt (a .0 .now) (a .1 .1 .1 .1 .1 .0 .at)) + 2
 
 abbrev pub μ-step : Measures 5 step-kinds.ps ℕ
-μ-step κs a = 5 * left-over (a .0 .now) (a .1 .1 .1 .1 .1 .0) + 1
+μ-step κs a = 5 * unplaced (a .0 .now) (a .1 .1 .1 .1 .1 .0) + 1
 
 abbrev pub at-knee-at : ℕ → In 5 at-knee-kinds.ps
 at-knee-at t = and 5 at-knee-kinds.ps (is 5 at-knee-kinds.ps μ-at-knee t) at-knee.Pre

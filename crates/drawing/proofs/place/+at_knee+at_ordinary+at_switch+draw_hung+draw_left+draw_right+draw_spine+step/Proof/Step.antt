@@ -5,8 +5,9 @@ use borrow.Author.Needs.{needs}
 use native.Mathlib.Omega.{arith}
 use Rattle.layout.specs.Spine.{knee, ordinary, switch}
 use Rattle.measure.specs.Roles.{roleOf}
+use Rattle.measure.proofs.Forks.{named-within}
 use Rattle.drawing.proofs.Starting.{named-node}
-use Rattle.drawing.proofs.Walking.{named-within, knee-is, switch-is, ordinary-is, role-below, going-as, stepped-for}
+use Rattle.drawing.proofs.Walking.{knee-is, switch-is, ordinary-is, role-below, going-as, stepped-for}
 use Rattle.drawing.proofs.place.step.Reads as reads
 use Rattle.drawing.proofs.place.+at_knee+at_ordinary+at_switch+draw_hung+draw_left+draw_right+draw_spine+step.Lts-step as lts
 use Rattle.drawing.proofs.place.+at_knee+at_ordinary+at_switch+draw_hung+draw_left+draw_right+draw_spine+step.Proof.Measures.{step-claims, step-at}
@@ -20,7 +21,7 @@ module _ (t : ℕ) where
   role-at-requires : lts.Need-role-at-requires (step-claims t) (step-at t) reads.Post
   role-at-requires c κs =
       let s = c .before .before .before .before .before .before in (
-        omega (arith, named-within _ _ _ _ _ (s .pre .1 .0) _ (s .pre .1 .1 .0 .1 .named), s .pre .1 .0 .long-roles),
+        omega (arith, named-within _ (s .pre .1 .0 .sound) _ (s .pre .1 .1 .0 .1 .named), s .pre .1 .0 .long-roles),
         role-below _ _ _ _ _ _ _ (c .fork-at .ensures) _ (s .pre .1 .1 .0 .1),
       )
 
