@@ -13,9 +13,9 @@ use Rattle.table.specs.Tree.{Tree, none, node}
 use Rattle.layout.specs.Layout.{Layout}
 use Rattle.layout.specs.Spine.{SpineNode, hangs, Role, knee, ordinary, switch, opposite, seen, runRole, roleAfter, handAfter}
 use Rattle.layout.specs.Drawing.{Rest, join}
-use Rattle.layout.specs.Held.{inwards, hungOn, heightOn, widthOn, roleNext, far, lay}
+use Rattle.layout.specs.Held.{inwards, hungOn, heightOn, widthOn, roleNext, far, lay, bottom, Inside, Rooms, knee-room, ordinary-room, switch-room}
 use Rattle.layout.proofs.Spines.{spineTree}
-use Rattle.layout.proofs.Held.{bottom, Inside, Rooms, knee-room, ordinary-room, switch-room, inside-less}
+use Rattle.layout.proofs.Held.{inside-less}
 use Rattle.measure.specs.Prepared.{codeOf, Prepared, Along, no-spine, onward}
 use Rattle.drawing.specs.Answer.{store}
 use Rattle.drawing.specs.Placing.{isSwitch, point, kept, finish, finished, Ready}

@@ -17,8 +17,8 @@ use Rattle.table.proofs.Accepted.{tree-none, nodes-distinct, down, tree-unfolds
 use Rattle.layout.specs.Layout.{Layout}
 use Rattle.layout.specs.Spine.{SpineNode, Role, knee}
 use Rattle.layout.specs.Drawing.{draw}
-use Rattle.layout.specs.Held.{facing, inwards, hungOn, heightOn, widthOn, widestOn, spineOn, lay, Frame}
-use Rattle.layout.proofs.Held.{bottom, Inside, inside-less, hung-inside, rooms-law, inside-fits, hung-law, bottom-law}
+use Rattle.layout.specs.Held.{facing, inwards, hungOn, heightOn, widthOn, widestOn, spineOn, lay, Frame, bottom, Inside}
+use Rattle.layout.proofs.Held.{inside-less, hung-inside, rooms-law, inside-fits, hung-law, bottom-law}
 use Rattle.measure.specs.Sized.{Named}
 use Rattle.measure.specs.Forked.{sideOf}
 use Rattle.measure.specs.Prepared.{Prepared, Along, no-spine, a-spine}

@@ -12,9 +12,9 @@ use Rattle.table.specs.Tree.{Tree, none, size, nodes, treeAt}
 use Rattle.table.proofs.Lists.{same}
 use Rattle.table.proofs.Accepted.{tree-none, records-bounds, chain-within}
 use Rattle.layout.specs.Spine.{SpineNode, hangs, Role, knee, ordinary, switch, opposite}
-use Rattle.layout.specs.Held.{inwards, hungOn, heightOn, spineOn, roleNext, far}
+use Rattle.layout.specs.Held.{inwards, hungOn, heightOn, spineOn, roleNext, far, bottom, Inside}
 use Rattle.layout.proofs.Spines.{over, spineTree}
-use Rattle.layout.proofs.Held.{bottom, Inside, inside-less}
+use Rattle.layout.proofs.Held.{inside-less}
 use Rattle.measure.specs.Sized.{Named}
 use Rattle.measure.specs.Forked.{sideOf, Forked}
 use Rattle.measure.specs.Prepared.{codeOf}

@@ -11,8 +11,7 @@ use Rattle.table.specs.Tree.{Tree, none, size, nodes, treeAt}
 use Rattle.table.specs.Refusal.{fault}
 use Rattle.layout.specs.Spine.{SpineNode, Role, knee, ordinary, switch}
 use Rattle.layout.specs.Drawing.{Rest}
-use Rattle.layout.specs.Held.{inwards, hungOn, heightOn, widthOn, spineOn, lay}
-use Rattle.layout.proofs.Held.{bottom, Inside, Rooms}
+use Rattle.layout.specs.Held.{inwards, hungOn, heightOn, widthOn, spineOn, lay, bottom, Inside, Rooms}
 use Rattle.measure.specs.Sized.{Named, Sized}
 use Rattle.measure.specs.Forked.{sideOf}
 use Rattle.measure.specs.Prepared.{Prepared, Along}

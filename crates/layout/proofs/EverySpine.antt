@@ -11,11 +11,11 @@ use Rattle.table.specs.Tree.{Tree, none, node, size}
 use Rattle.layout.specs.Layout.{Layout, blank, placed, width, mirror}
 use Rattle.layout.specs.Spine.{SpineNode, hangs, Role, knee, handAfter}
 use Rattle.layout.specs.Drawing.{join, Rest, drawing, draw}
-use Rattle.layout.specs.Held.{facing, inwards, put, hungOn, heightOn, widthOn, spineOn, roleNext, far, lay, widestOn, Frame, Fit}
+use Rattle.layout.specs.Held.{facing, inwards, put, hungOn, heightOn, widthOn, spineOn, roleNext, far, lay, widestOn, Frame, Fit, Inside, Rooms, no-rooms, knee-room, ordinary-room, switch-room}
 use Rattle.layout.proofs.Rows.{shape, mirror-twice}
 use Rattle.layout.proofs.Spines.{hungTree}
 use Rattle.layout.proofs.Theorem.{promise}
-use Rattle.layout.proofs.Held.{Inside, inside-less, Rooms, no-rooms, knee-room, ordinary-room, switch-room, rooms-law, hung-inside, inside-fits, hung-law, draw-hung}
+use Rattle.layout.proofs.Held.{inside-less, rooms-law, hung-inside, inside-fits, hung-law, draw-hung}
 use Rattle.layout.proofs.Apart.{sideOff, hungAt, SpineApart, each-hung}
 use Rattle.layout.proofs.ApartAlong.{apart}
 

@@ -1,7 +1,6 @@
 -- The drawing as a program makes it is the drawing: a subtree on a side (`hung-law`), and the whole tree, held by its left edge at column 0 (`draw-lay`). The first row below
 -- it is counted along the spine (`bottom-law`), and every column that is needed on the way is there (`rooms-law`).
 use mathlib.Core.Path.{_≡_, refl, ap, sym, subst, _∙_}
-use mathlib.Core.Bool.{true, false}
 use mathlib.Core.List.{List, [], _∷_, map}
 use Prim.Native.Nat.{ℕ, suc, _+_, _≤_, max}
 use native.Mathlib.Omega.{arith}
@@ -11,7 +10,7 @@ use Rattle.table.specs.Tree.{Tree, size}
 use Rattle.layout.specs.Layout.{Layout, blank, placed, width, height, shift, flip}
 use Rattle.layout.specs.Spine.{SpineNode, hangs, Role, knee, ordinary, switch, opposite, seen, roleAfter, handAfter, assigned, rolesAfter}
 use Rattle.layout.specs.Drawing.{Part, part, hang, widest, join, place, draw}
-use Rattle.layout.specs.Held.{facing, inwards, put, hungOn, heightOn, widthOn, spineOn, roleNext, far, lay, rolesOn, widestOn, Frame, Fit}
+use Rattle.layout.specs.Held.{facing, inwards, put, hungOn, heightOn, widthOn, spineOn, roleNext, far, lay, rolesOn, widestOn, Frame, Fit, Exact, bottom, Inside, Rooms, no-rooms, knee-room, ordinary-room, switch-room}
 use Rattle.layout.proofs.Motions.{width-shift, width-shifted, width-flip}
 use Rattle.layout.proofs.Rows.{shape, count, size-facing}
 use Rattle.layout.proofs.Steps.{wide-join}
@@ -19,7 +18,7 @@ use Rattle.layout.proofs.Heights.{last}
 use Rattle.layout.proofs.Spines.{spineTree, Light, light-end, light-node, light-spine, light-seen, size-seen, Goes, goes-on, parts}
 use Rattle.layout.proofs.Whole.{draw-rows}
 use Rattle.layout.proofs.Theorem.{promise}
-use Rattle.layout.proofs.Sides.{sideOn, spine-on, partsOn, parts-on, draw-on, Exact, put-flip, held-join, same-node}
+use Rattle.layout.proofs.Sides.{sideOn, spine-on, partsOn, parts-on, draw-on, put-flip, held-join, same-node}
 
 -- ---- a spine as it stands, and its parts
 
@@ -52,29 +51,6 @@ light-on : (s : Side) (S : Tree) → Light (size (facing s S)) (spineOn s S)
 light-on s S = light-seen (size (facing s S)) s (spineOn s S) (subst (Light (size (facing s S))) (spine-on s S) (light-spine (size (facing s S)) (facing s S) (omega arith)))
 
 -- ---- rows and columns along a spine
-
--- The first row below what is drawn from a spine node on, what is pending too, as a program counts it.
-unfoldable pub bottom : (a : Side) → Role → (H r p : ℕ) → List SpineNode → ℕ
-bottom a o H r p [] = H + p + 1
-bottom a knee H r p (hangs k s S ∷ ls) = elim (far a s) [
-  | true ↦ bottom a (roleNext a knee ls) (max H r + heightOn a S) (max H r + heightOn a S + 1) 0 ls
-  | false ↦ bottom a (roleNext a knee ls) (max H r) (max H r + 1) (heightOn a S) ls
-]
-bottom a ordinary H r p (hangs k s S ∷ ls) = bottom a (roleNext a ordinary ls) (r + heightOn a S) (r + max 1 (heightOn a S)) p ls
-bottom a switch H r p (hangs k s S ∷ ls) = bottom (opposite a) (roleNext (opposite a) switch ls) (r + heightOn a S + p) (r + 1) 0 ls
-
--- The w columns from the edge e of a side inwards are among the columns 0 to B − 1.
-abbrev pub Inside : (B : ℕ) → Side → (e w : ℕ) → Type 0
-Inside B left e w = e + w ≤ B
-Inside B right e w = (w ≤ suc e) × (suc e ≤ B)
-
--- So are those of each spine node from here on, and of what hangs from it. At a switch the whole frame is, and the other hand's edge f is W + 2 columns inwards.
-pub data Rooms (B W : ℕ) : Side → (e f : ℕ) → Role → List SpineNode → Type 0 where
-  no-rooms : {a : Side} {e f : ℕ} {o : Role} → Rooms B W a e f o []
-  knee-room : {a s : Side} {e f k : ℕ} {S : Tree} {ls : List SpineNode} → Inside B a e (1 + widthOn a S) → Rooms B W a e f (roleNext a knee ls) ls → Rooms B W a e f knee (hangs k s S ∷ ls)
-  ordinary-room : {a s : Side} {e f k : ℕ} {S : Tree} {ls : List SpineNode} → Inside B a e (2 + widthOn a S) → Rooms B W a e f (roleNext a ordinary ls) ls → Rooms B W a e f ordinary (hangs k s S ∷ ls)
-  switch-room : {a s : Side} {e f k : ℕ} {S : Tree} {ls : List SpineNode} → widthOn a S ≤ W → Inside B a e (W + 3) → Exact a e f (W + 2) →
-      Rooms B W (opposite a) f e (roleNext (opposite a) switch ls) ls → Rooms B W a e f switch (hangs k s S ∷ ls)
 
 pub inside-less : (B : ℕ) (a : Side) (e : ℕ) {v w : ℕ} → v ≤ w → Inside B a e w → Inside B a e v
 inside-less B left e i h = omega arith

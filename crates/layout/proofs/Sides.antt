@@ -12,7 +12,7 @@ use Rattle.table.specs.Tree.{Tree, none, node, size}
 use Rattle.layout.specs.Layout.{Layout, blank, placed, width, shift, flip, mirror}
 use Rattle.layout.specs.Spine.{SpineNode, hangs, spine, Role, knee, ordinary, switch, opposite, seen, roleAfter, handAfter, Assigned, assigned, rolesAfter}
 use Rattle.layout.specs.Drawing.{Part, hang, join, draw}
-use Rattle.layout.specs.Held.{facing, inwards, put, hungOn, spineOn, rolesOn, Fit}
+use Rattle.layout.specs.Held.{facing, inwards, put, hungOn, spineOn, rolesOn, Fit, Exact}
 use Rattle.layout.proofs.Clean.{Clean}
 use Rattle.layout.proofs.Points.{Untangled}
 use Rattle.layout.proofs.Meet.{untangled-clean}
@@ -99,11 +99,6 @@ unfolding put shift inwards
 put-shift s e t i j blank = refl
 put-shift left e t i j (placed k P a b) = same-node (omega arith) (omega arith) (put-shift left e t i j a) (put-shift left e t i j b)
 put-shift right e t i j (placed k P a b) = same-node (omega arith) (omega arith) (put-shift right e t i j b) (put-shift right e t i j a)
-
--- f is the other hand's edge, w columns inwards.
-abbrev pub Exact : Side → (e f w : ℕ) → Type 0
-Exact left e f w = f ≡ e + w
-Exact right e f w = e ≡ f + w
 
 pub put-flip : (s : Side) (e f w t : ℕ) → Exact s e f w → (L : Layout) → width L ≤ suc w → put s e t (flip w L) ≡ put (opposite s) f t L
 unfolding put flip opposite width

@@ -93,3 +93,31 @@ Frame right e f w = w ≤ e → e ≡ f + w
 abbrev pub Fit : Side → ℕ → Layout → Type 0
 Fit left e L = Unit {0}
 Fit right e L = width L ≤ suc e
+
+-- f is the other hand's edge, w columns inwards.
+abbrev pub Exact : Side → (e f w : ℕ) → Type 0
+Exact left e f w = f ≡ e + w
+Exact right e f w = e ≡ f + w
+
+-- The first row below what is drawn from a spine node on, what is pending too, as a program counts it.
+unfoldable pub bottom : (a : Side) → Role → (H r p : ℕ) → List SpineNode → ℕ
+bottom a o H r p [] = H + p + 1
+bottom a knee H r p (hangs k s S ∷ ls) = elim (far a s) [
+  | true ↦ bottom a (roleNext a knee ls) (max H r + heightOn a S) (max H r + heightOn a S + 1) 0 ls
+  | false ↦ bottom a (roleNext a knee ls) (max H r) (max H r + 1) (heightOn a S) ls
+]
+bottom a ordinary H r p (hangs k s S ∷ ls) = bottom a (roleNext a ordinary ls) (r + heightOn a S) (r + max 1 (heightOn a S)) p ls
+bottom a switch H r p (hangs k s S ∷ ls) = bottom (opposite a) (roleNext (opposite a) switch ls) (r + heightOn a S + p) (r + 1) 0 ls
+
+-- The w columns from the edge e of a side inwards are among the columns 0 to B − 1.
+abbrev pub Inside : (B : ℕ) → Side → (e w : ℕ) → Type 0
+Inside B left e w = e + w ≤ B
+Inside B right e w = (w ≤ suc e) × (suc e ≤ B)
+
+-- So are those of each spine node from here on, and of what hangs from it. At a switch the whole frame is, and the other hand's edge f is W + 2 columns inwards.
+pub data Rooms (B W : ℕ) : Side → (e f : ℕ) → Role → List SpineNode → Type 0 where
+  no-rooms : {a : Side} {e f : ℕ} {o : Role} → Rooms B W a e f o []
+  knee-room : {a s : Side} {e f k : ℕ} {S : Tree} {ls : List SpineNode} → Inside B a e (1 + widthOn a S) → Rooms B W a e f (roleNext a knee ls) ls → Rooms B W a e f knee (hangs k s S ∷ ls)
+  ordinary-room : {a s : Side} {e f k : ℕ} {S : Tree} {ls : List SpineNode} → Inside B a e (2 + widthOn a S) → Rooms B W a e f (roleNext a ordinary ls) ls → Rooms B W a e f ordinary (hangs k s S ∷ ls)
+  switch-room : {a s : Side} {e f k : ℕ} {S : Tree} {ls : List SpineNode} → widthOn a S ≤ W → Inside B a e (W + 3) → Exact a e f (W + 2) →
+      Rooms B W (opposite a) f e (roleNext (opposite a) switch ls) ls → Rooms B W a e f switch (hangs k s S ∷ ls)
