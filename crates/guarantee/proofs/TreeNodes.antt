@@ -1,15 +1,16 @@
--- Chained records are the nodes of an accepted table's tree (`chained-node`), and lines its edges (`line-child`). Rests on the laws of an accepted table.
+-- Chained records are the nodes of an accepted table's tree (`chained-node`), and lines its edges (`line-child`). Rests on the laws of an accepted table and of
+-- the ends of lines.
 use mathlib.Core.Path.{_≡_, sym, subst}
-use mathlib.Core.Logic.{_⊎_, inl, inr}
 use mathlib.Core.List.{List}
 use Prim.Native.Nat.{ℕ}
 use lib.Dec.{T}
 use Rattle.table.specs.Table.{Side, left, right, linkOf, leftOf, rightOf}
 use Rattle.table.specs.Tree.{Tree, node, treeAt, tree}
 use Rattle.table.specs.Refusal.{fault}
-use Rattle.table.proofs.Accepted.{tree-unfolds, links-chained, down}
+use Rattle.table.proofs.Accepted.{tree-unfolds, down}
 use Rattle.layout.proofs.Records.{IsNode, node-here, node-left, node-right, Root, root-here, Child, left-child, right-child, child-left, child-right}
 use Rattle.verdict.specs.Lines.{Chained, Line}
+use Rattle.verdict.proofs.Ends.{child-chained}
 
 -- S is a subtree of a tree.
 data Subtree (S : Tree) : Tree → Type 0 where
@@ -54,17 +55,9 @@ module _ (t : List ℕ) (ok : fault t ≡ 0) where
   root-at : (c : ℕ) → Chained t c → Root c (treeAt t c)
   root-at c h = subst (Root c) (sym (tree-unfolds t ok c h)) root-here
 
-  -- what a line names is chained
-  pub child-chained : {k c : ℕ} {s : Side} → Line t k s c → Chained t c
-  child-chained {k} {c} {s} l = go (links-chained t ok k s (l .chained))
-    where
-      go : (linkOf t s k ≡ 0) ⊎ Chained t (linkOf t s k) → Chained t c
-      go (inl e) = absurd (l .child (cc))
-      go (inr h) = subst (Chained t) (l .links) h
-
   pub line-child : {k c : ℕ} {s : Side} → Line t k s c → Child k c s (tree t)
   line-child {k} {c} {s} l = sub-edge s (subtree k (l .chained)) (at s (l .links))
     where
       at : (s : Side) → linkOf t s k ≡ c → Root c (childTree s (treeAt t (leftOf t k)) (treeAt t (rightOf t k)))
-      at left e = subst (λ (n : ℕ). Root c (treeAt t n)) (sym e) (root-at c (child-chained l))
-      at right e = subst (λ (n : ℕ). Root c (treeAt t n)) (sym e) (root-at c (child-chained l))
+      at left e = subst (λ (n : ℕ). Root c (treeAt t n)) (sym e) (root-at c (child-chained t ok l))
+      at right e = subst (λ (n : ℕ). Root c (treeAt t n)) (sym e) (root-at c (child-chained t ok l))
