@@ -95,7 +95,7 @@ nearer {P} {A} {B} a b h one = go (le-dest h)
       });
     }
 
-at-end : {P B : Point} {q x y : ℕ} (b : Weights P B q x y) → b .v ≡ 0 → Is P q x y
+pub at-end : {P B : Point} {q x y : ℕ} (b : Weights P B q x y) → b .v ≡ 0 → Is P q x y
 at-end {P} {B} {q} b e = let f : b .u ≡ q = omega arith in record {
   in-column = omega (arith, ap (λ (n : ℕ). n * P .column) f, ap (λ (n : ℕ). n * B .column) e);
   in-row = omega (arith, ap (λ (n : ℕ). n * P .row) f, ap (λ (n : ℕ). n * B .row) e);
