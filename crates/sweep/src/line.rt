@@ -1,21 +1,20 @@
 // A line as a number: the number of its end above that of its start, each counted row by row (specs/Line).
 use segment::Point;
 ghost use mathlib.Core.Path.{_≡_};
-ghost use mathlib.Core.Logic.{_⊎_};
-ghost use Prim.Native.Nat.{_≤_, _<_};
+ghost use Prim.Native.Nat.{_<_};
 ghost use Rattle.segment.specs.Test.{number as numberOf};
-ghost use Rattle.sweep.specs.Line.{startOf, endOf, first, last};
+ghost use Rattle.sweep.specs.Line.{startOf, endOf};
 
 // A number of 16 bits, as one of 64.
-fn wide(n: u16) -> u64
+pub fn wide(n: u16) -> u64
     ensures { λ r. ⌜ (r ≡ n) × (r < 65536) ⌝ }
 {
     n as u64
 }
 
 // The number of a point, counted row by row.
-fn number(p: Point) -> u64
-    ensures { λ r. ⌜ (r ≡ numberOf 65536 p) × (r < 4294967296) ⌝ }
+pub fn number(p: Point) -> u64
+    ensures { λ r. ⌜ (r ≡ numberOf 65536 p) × (p .row < 65536) × (p .column < 65536) ⌝ }
 {
     65536 * wide(p.row) + wide(p.column)
 }

@@ -1,0 +1,61 @@
+// The worst meeting of two lines of a list: lines sorted by their ends, and each compared with those before it that end after it starts.
+mod axis;
+pub mod line;
+pub mod meeting;
+
+use crate::line::end;
+use crate::line::start;
+use crate::meeting::Meeting;
+use crate::meeting::against;
+use crate::meeting::least;
+use crate::meeting::most;
+use crate::meeting::utmost;
+use crate::meeting::worse;
+ghost use Prim.Native.Nat.{_≤_, _<_};
+ghost use lib.ListN.{length};
+ghost use Rattle.sort.specs.Order.{Ascending};
+ghost use Rattle.sweep.specs.Line.{last, Onward};
+ghost use Rattle.sweep.specs.Meetings.{WorstFrom, Worst};
+
+// The worst meeting of line i with a line before it. Lines are sorted by their ends: where one ends before line i starts, so do all before that.
+fn worst_before(lines: &[u64], i: usize) -> Meeting
+    requires { ⌜ i < length (now lines) ⌝ }
+    requires { ⌜ Onward (length (now lines)) (now lines) ⌝ }
+    requires { ⌜ Ascending last (length (now lines)) (now lines) ⌝ }
+    ensures { λ m. ⌜ WorstFrom 0 i (now (lines .entry)) m ⌝ }
+{
+    let k = lines[i];
+    let p = start(k);
+    let q = end(k);
+    let low = least(p.column, q.column);
+    let high = most(p.column, q.column);
+    let mut worst = Meeting::Apart;
+    let mut j = i;
+    while 0 < j {
+        let before = lines[j - 1];
+        if before / 4294967296 <= k % 4294967296 {
+            return worst;
+        }
+        worst = worse(worst, against(p, q, low, high, start(before), end(before)));
+        j -= 1;
+    }
+    worst
+}
+
+// The worst meeting of two lines, of lines sorted by their ends. Stops at one that no other is worse than.
+fn worst_of(lines: &[u64]) -> Meeting
+    requires { ⌜ Onward (length (now lines)) (now lines) ⌝ }
+    requires { ⌜ Ascending last (length (now lines)) (now lines) ⌝ }
+    ensures { λ m. ⌜ Worst (length (now (lines .entry))) (now (lines .entry)) m ⌝ }
+{
+    let mut worst = Meeting::Apart;
+    let mut i = 0;
+    while i < lines.len() {
+        worst = worse(worst, worst_before(lines, i));
+        if utmost(worst) {
+            return worst;
+        }
+        i += 1;
+    }
+    worst
+}
