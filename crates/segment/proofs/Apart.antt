@@ -6,11 +6,11 @@ use native.Mathlib.Nat.{mul-le-mul-left, le-of-mul-le-mul-left}
 use native.Mathlib.Decide.{decLt}
 use native.Mathlib.Omega.{arith}
 use Rattle.segment.specs.declared.Point.{Point}
-use Rattle.segment.specs.Segment.{Is, Clash}
+use Rattle.segment.specs.Segment.{Clash}
 use Rattle.segment.specs.Test.{flip, number}
 use Rattle.segment.proofs.CrossProduct.{Weights, weights}
 use Rattle.segment.proofs.SharedPoint.{on-flip}
-use Rattle.segment.proofs.Clashing.{point, at-end, clash-rows-apart}
+use Rattle.segment.proofs.Clashing.{point, at-end, at-point, clash-rows-apart}
 
 -- ---- rows for columns
 
@@ -54,13 +54,6 @@ lowest u v t w q n m k l h h′ one e nm kl ln = (f, go (decLt 0 v))
     go (yes p) = let z : m ≤ n = le-of-mul-le-mul-left {k = v}
         (omega (arith, mul-le-mul-left t kl, mul-le-mul-left q ln, ap (λ (i : ℕ). i * n) h, ap (λ (i : ℕ). i * l) h′)) p in inr (omega arith)
     go (no p) = inl (omega arith)
-
--- a point of a segment of one point
-at-point : {P Q : Point} {q x y : ℕ} (a : Weights P Q q x y) → Q ≡ P → Is P q x y
-at-point {P} {Q} a e = record {
-  in-column = omega (arith, ap (λ (n : ℕ). n * P .column) (a .sum), ap (λ (X : Point). a .v * X .column) e);
-  in-row = omega (arith, ap (λ (n : ℕ). n * P .row) (a .sum), ap (λ (X : Point). a .v * X .row) e);
-}
 
 -- P Q starts at the number that R S ends at, or after it: they share at most the point P
 pub numbers-apart : (b : ℕ) {P Q R S : Point} → P .column < b → Q .column < b → S .column < b → number b P ≤ number b Q → number b R ≤ number b S → number b S ≤ number b P → Clash P Q R S → ⊥

@@ -1,6 +1,5 @@
--- Lines that go down: their ends differ, and two that are apart by their rows do not clash.
-use mathlib.Core.Path.{ap}
-use mathlib.Core.Logic.{_↔_, _≢_}
+-- Lines that go down: two that are apart by their rows do not clash.
+use mathlib.Core.Logic.{_↔_}
 use mathlib.Core.Bool.{false}
 use mathlib.Core.List.{List}
 use Prim.Native.Nat.{ℕ, _≤_, _<_}
@@ -10,9 +9,6 @@ use Rattle.segment.specs.declared.Point.{Point}
 use Rattle.segment.specs.Segment.{Clash}
 use Rattle.segment.proofs.Clashing.{clash-exchange, clash-rows-apart}
 use Rattle.verdict.specs.Steps.{LinesDown}
-
-pub down-differ : {P Q : Point} → P .row < Q .row → P ≢ Q
-down-differ h e = let r = ap (λ (X : Point). X .row) e in omega arith
 
 -- The second line is below the first.
 pub apart-below : {P Q R S : Point} → P .row < Q .row → R .row < S .row → Q .row < R .row → T false ↔ Clash P Q R S

@@ -1,5 +1,5 @@
 -- Lines whose rows are apart do not clash. Rests on Rows.
-use Rattle.verdict.proofs.Rows.{down-differ, apart-below, apart-above}
+use Rattle.verdict.proofs.Rows.{apart-below, apart-above}
 use native.Mathlib.Omega.{arith}
 use borrow.Author.Needs.{needs}
 use Rattle.verdict.proofs.touch.clash_at.Statement.{statement}
@@ -36,7 +36,7 @@ shared-slice-read-t14-2 : tie.Need-shared-slice-read-t14-2
 shared-slice-read-t14-2 c = search needs
 
 clash-requires : tie.Need-clash-requires
-clash-requires c κs = let s = c .before .before .before .before .before .before .before .before .before .before .before .before in (down-differ (s .pre .0), down-differ (s .pre .1 .down (s .args .i) (omega arith)))
+clash-requires c κs = search needs
 
 returns-3 : tie.Need-returns-3
 returns-3 c = search needs
