@@ -3,6 +3,8 @@ mod axis;
 pub mod line;
 pub mod meeting;
 
+use crate::axis::arrange;
+use crate::axis::lie_flat;
 use crate::line::end;
 use crate::line::start;
 use crate::meeting::Meeting;
@@ -11,9 +13,13 @@ use crate::meeting::least;
 use crate::meeting::most;
 use crate::meeting::utmost;
 use crate::meeting::worse;
+use sort::sort;
+ghost use mathlib.Core.Path.{_≡_};
+ghost use mathlib.Core.Logic.{_↔_};
 ghost use Prim.Native.Nat.{_≤_, _<_};
-ghost use lib.ListN.{length};
-ghost use Rattle.sort.specs.Order.{Ascending};
+ghost use lib.Dec.{T};
+ghost use lib.ListN.{length, getD};
+ghost use Rattle.sort.specs.Order.{Pairs, Ascending};
 ghost use Rattle.sweep.specs.Line.{last, Onward};
 ghost use Rattle.sweep.specs.Meetings.{WorstFrom, Worst};
 
@@ -58,4 +64,30 @@ fn worst_of(lines: &[u64]) -> Meeting
         i += 1;
     }
     worst
+}
+
+// The worst meeting of two lines, whichever way they go. Leaves them arranged and sorted.
+pub fn worst_meeting(lines: &mut [u64], scratch: &mut [u64]) -> Meeting
+    requires { ⌜ (length (now lines) ≤ 4097) × (length (now lines) ≤ length (now scratch)) ⌝ }
+    ensures { λ m. ⌜ Worst (length (now (lines .entry))) (now (lines .entry)) m ⌝ }
+{
+    let across = lie_flat(lines);
+    arrange(lines, across);
+    sort(lines, scratch, 32);
+    worst_of(lines)
+}
+
+// Do two lines end at one point, of lines sorted by their ends?
+pub fn same_end(lines: &[u64]) -> bool
+    requires { ⌜ Ascending last (length (now lines)) (now lines) ⌝ }
+    ensures { λ r. ⌜ T r ↔ Pairs (length (now (lines .entry))) (λ i j. last (getD (now (lines .entry)) i 0) ≡ last (getD (now (lines .entry)) j 0)) ⌝ }
+{
+    let mut i = 1;
+    while i < lines.len() {
+        if lines[i - 1] / 4294967296 == lines[i] / 4294967296 {
+            return true;
+        }
+        i += 1;
+    }
+    false
 }

@@ -27,7 +27,7 @@ utmost-requires : tie.Need-utmost-requires Inv-loop μ-loop
 utmost-requires c κs = search needs
 
 returns : tie.Need-returns Inv-loop μ-loop
-returns c = ?
+returns c = worst-utmost (omega arith) (c .before .utmost .ensures (c .if1 .taken)) (worst-more (c .before .before .before .before .before .loop .inv .1) (c .before .before .before .worst-before .ensures) (c .before .before .worse .ensures))
 
 add-i : tie.Need-add-i Inv-loop μ-loop
 add-i c = search needs
@@ -36,7 +36,7 @@ loop-less : tie.Need-loop-less Inv-loop μ-loop
 loop-less c = search needs
 
 loop-again : tie.Need-loop-again Inv-loop μ-loop
-loop-again c = ?
+loop-again c = (omega arith, worst-more (c .before .before .before .before .before .loop .inv .1) (c .before .before .before .worst-before .ensures) (c .before .before .worse .ensures))
 
 returns-2 : tie.Need-returns-2 Inv-loop μ-loop
 returns-2 c = worst-at (omega arith) (c .before .loop .inv .1)

@@ -1,77 +1,62 @@
+-- Line by line. Rests on Arranging.
+use native.Mathlib.Omega.{arith}
+use Prim.Native.Nat.{_≤_, _-_}
+use lib.ListN.{length}
+use Rattle.sweep.proofs.Arranging.{Arranging, arranging-none, arranging-more, arranging-all}
+use borrow.Author.Needs.{needs}
 use Rattle.sweep.proofs.axis.arrange.Statement.{statement}
 use Rattle.sweep.proofs.axis.arrange.Tie as tie
-use Rattle.sweep.proofs.axis.arrange.Reads as reads
-use Rattle.sweep.proofs.axis.arrange.Lts as lts
-use Rattle.sweep.proofs.axis.join.Reads as join-reads
-use Rattle.sweep.proofs.axis.seen.Reads as seen-reads
-use Rattle.sweep.proofs.line.end.Reads as end-reads
-use Rattle.sweep.proofs.line.start.Reads as start-reads
 
 abbrev Inv-loop : tie.InvT-loop
-Inv-loop lines₀ across i₀ lines i = ?
+Inv-loop lines₀ across i₀ lines i = (i ≤ length lines₀) × Arranging across i lines₀ lines
 
 abbrev μ-loop : tie.MeasureT-loop
-μ-loop lines₀ across i₀ lines i = ?
+μ-loop lines₀ across i₀ lines i = length lines₀ - i
 
--- src/axis.rt:43:5
 loop-holds : tie.Need-loop-holds Inv-loop μ-loop
-loop-holds c = ?
+loop-holds c = (omega arith, arranging-none _ _)
 
--- src/axis.rt:44:17
 mul-k : tie.Need-mul-k Inv-loop μ-loop
-mul-k c = ?
+mul-k c = search needs
 
--- src/axis.rt:44:17
 slice-read-k : tie.Need-slice-read-k Inv-loop μ-loop
-slice-read-k c = ?
+slice-read-k c = search needs
 
--- src/axis.rt:45:30
 start-requires : tie.Need-start-requires Inv-loop μ-loop
-start-requires c κs = ?
+start-requires c κs = search needs
 
--- src/axis.rt:45:25
 seen-requires : tie.Need-seen-requires Inv-loop μ-loop
-seen-requires c κs = ?
+seen-requires c κs = search needs
 
--- src/axis.rt:45:54
 end-requires : tie.Need-end-requires Inv-loop μ-loop
-end-requires c κs = ?
+end-requires c κs = search needs
 
--- src/axis.rt:45:49
 seen-requires-2 : tie.Need-seen-requires-2 Inv-loop μ-loop
-seen-requires-2 c κs = ?
+seen-requires-2 c κs = search needs
 
--- src/axis.rt:45:20
 join-requires : tie.Need-join-requires Inv-loop μ-loop
-join-requires c κs = ?
+join-requires c κs = search needs
 
--- src/axis.rt:45:9
 mul-lines : tie.Need-mul-lines Inv-loop μ-loop
-mul-lines c = ?
+mul-lines c = search needs
 
--- src/axis.rt:45:9
 slice-write-lines : tie.Need-slice-write-lines Inv-loop μ-loop
-slice-write-lines c = ?
+slice-write-lines c = search needs
 
--- src/axis.rt:46:9
 add-i : tie.Need-add-i Inv-loop μ-loop
-add-i c = ?
+add-i c = search needs
 
--- src/axis.rt:43:5
 loop-less : tie.Need-loop-less Inv-loop μ-loop
-loop-less c = ?
+loop-less c = search needs
 
--- src/axis.rt:43:5
 loop-again : tie.Need-loop-again Inv-loop μ-loop
-loop-again c = ?
+loop-again c = let l = c .before .before .before .before .before .before .before .loop in (omega arith, arranging-more (omega (arith, l .inv .1 .long)) (l .inv .1) (c .before .before .before .before .start .ensures) (c .before .before .end .ensures) (c .before .before .before .seen .ensures) (c .before .seen2 .ensures) (c .join .ensures))
 
--- src/axis.rt:39:1
 same-length : tie.Need-same-length Inv-loop μ-loop
-same-length c = ?
+same-length c = search needs
 
--- src/axis.rt:39:1
 returns : tie.Need-returns Inv-loop μ-loop
-returns c = ?
+returns c = arranging-all (omega (arith, c .before .loop .inv .1 .long)) (c .before .loop .inv .1)
 
 pub arrange-spec : {M : Type 1} → statement M
 arrange-spec =

@@ -5,7 +5,7 @@ use Rattle.sweep.proofs.meeting.compare.Statement.{statement}
 use Rattle.sweep.proofs.meeting.compare.Tie as tie
 
 clash-requires : tie.Need-clash-requires
-clash-requires c κs = ?
+clash-requires c κs = search needs
 
 returns : tie.Need-returns
 returns c = holds (c .if1 .taken) (c .before .clash .ensures)
