@@ -1,4 +1,4 @@
--- Two segments clash exactly where the test `clashes` says so. With a common end they do where each has another end and one of those lies on the other segment; with none, where they share a point.
+-- Two segments clash exactly where the test `clashes` says so. With a common end they do where each has another end and one of those lies on the other segment; with none, where they share a point. Rests on SharedPoint.
 use mathlib.Core.Path.{_≡_, refl, ap, ap₂, sym, subst, _∙_}
 use mathlib.Core.Logic.{_↔_, _≢_, _⊎_, inl, inr, ⊎-elim, ⊎-map, ⊎-swap, Iff·trans}
 use mathlib.Core.Bool.{Bool, not, cond, _&&_, _||_}
@@ -18,7 +18,7 @@ use Rattle.segment.proofs.SharedPoint.{meets, at-start, meets-decides-s
 unfoldable pub same : Point → Point → Bool
 same P Q = eqb (P .column) (Q .column) && eqb (P .row) (Q .row)
 
--- the segments from P to A and from P to B share more than P
+-- the segments from P to A and from P to B share more than P (the code asks first whether the three points are in line)
 unfoldable pub along : Point → Point → Point → Bool
 along P A B = not (same P A) && (not (same P B) && (meets P B A A || meets P A B B))
 
