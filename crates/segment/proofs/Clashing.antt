@@ -1,5 +1,5 @@
 -- Two segments clash exactly where the test `clashes` says so. With a common end they do where each has another end and one of those lies on the other segment; with none, where they share a point. Rests on SharedPoint.
-use mathlib.Core.Path.{_≡_, refl, ap, ap₂, sym, subst, _∙_}
+use mathlib.Core.Path.{_≡_, refl, ap, ap₂, sym, subst, subst₂, _∙_}
 use mathlib.Core.Logic.{_↔_, _≢_, _⊎_, inl, inr, ⊎-elim, ⊎-map, ⊎-swap, Iff·trans}
 use mathlib.Core.Bool.{Bool, not, cond, _&&_, _||_}
 use Prim.Native.Nat.{ℕ, _+_, _*_, _≤_, _<_, max, min}
@@ -9,7 +9,7 @@ use native.Mathlib.Omega.{arith}
 use lib.Dec.{T, eqb}
 use lib.IntN.{pos}
 use Rattle.segment.specs.declared.Point.{Point}
-use Rattle.segment.specs.Segment.{at, cross, Share, Is, Lies, Clash}
+use Rattle.segment.specs.Segment.{at, On, cross, Share, Is, Lies, Clash}
 use Rattle.segment.proofs.Decides.{Decides, eq-decides, not-decides, and-decides, or-decides, cond-decides, same-meaning}
 use Rattle.segment.proofs.Difference.{diff-zero}
 use Rattle.segment.proofs.CrossProduct.{plus, minus, cross-diff, Weights, weights, on, on-turn}
@@ -108,6 +108,13 @@ at-point {P} {Q} a e = record {
   in-column = omega (arith, ap (λ (n : ℕ). n * P .column) (a .sum), ap (λ (X : Point). a .v * X .column) e);
   in-row = omega (arith, ap (λ (n : ℕ). n * P .row) (a .sum), ap (λ (X : Point). a .v * X .row) e);
 }
+
+-- a segment of one point clashes with a segment that it lies on and does not end
+pub point-lies : {B P Q : Point} → Clash B B P Q → Lies B P Q
+point-lies {P = P} {Q} c = let i = at-point (weights (c .on-PQ)) refl in record { q = c .q; q≥1 = c .q≥1; on = subst₂ (λ (x y : ℕ). On P Q (c .q) x y) (i .in-column) (i .in-row) (c .on-RS) }
+
+pub point-ends : {B P Q : Point} → Clash B B P Q → (B ≡ P) ⊎ (B ≡ Q) → ⊥
+point-ends {B} c e = c .no-common-end B (inl refl) e (at-point (weights (c .on-PQ)) refl)
 
 clash→lies : {P A B : Point} → Clash P A P B → Lies A P B ⊎ Lies B P A
 clash→lies {P} {A} {B} h = go (weights (h .on-PQ)) (weights (h .on-RS)) (decLe _ _) (decLt 0 _)
