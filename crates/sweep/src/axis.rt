@@ -10,6 +10,7 @@ use segment::Point;
 ghost use mathlib.Core.Path.{_≡_};
 ghost use Prim.Native.Nat.{_+_, _≤_, _<_};
 ghost use lib.ListN.{length};
+ghost use Rattle.sweep.specs.Line.{startOf, endOf};
 ghost use Rattle.sweep.specs.Arranged.{view, Joined, Arranged};
 
 // The line between p and q, from the one with the lesser number.
@@ -35,14 +36,25 @@ fn seen(p: Point, across: bool) -> Point
     p
 }
 
-// Every line, with columns and rows exchanged or not, from its end with the lesser number.
+// A line, with columns and rows exchanged or not, from its end with the lesser number.
+fn turned(k: u64, across: bool) -> u64
+    ensures { λ r. ⌜ Joined (view across (startOf k)) (view across (endOf k)) r ⌝ }
+{
+    if !across {
+        if k % 4294967296 <= k / 4294967296 {
+            return k;
+        }
+    }
+    join(seen(start(k), across), seen(end(k), across))
+}
+
+// Every line so.
 pub fn arrange(lines: &mut [u64], across: bool)
     ensures { λ _. ⌜ Arranged across (length (now (lines .entry))) (now (lines .entry)) (now (lines .exit)) ⌝ }
 {
     let mut i = 0;
     while i < lines.len() {
-        let k = lines[i];
-        lines[i] = join(seen(start(k), across), seen(end(k), across));
+        lines[i] = turned(lines[i], across);
         i += 1;
     }
 }
@@ -68,7 +80,7 @@ fn reach_more(r: Reach, a: u16, b: u16) -> Reach
     }
 }
 
-// How far one line in eight reaches, in rows or in columns.
+// How far every seventh line reaches, in rows or in columns.
 fn reach_along(lines: &[u64], across: bool) -> Reach
     requires { ⌜ length (now lines) ≤ 4097 ⌝ }
     ensures { λ z. ⌜ z .sum < 4294967296 ⌝ }
@@ -84,12 +96,12 @@ fn reach_along(lines: &[u64], across: bool) -> Reach
         let p = seen(start(k), across);
         let q = seen(end(k), across);
         r = reach_more(r, p.row, q.row);
-        i += 8;
+        i += 7;
     }
     r
 }
 
-// How many lines lie abreast, on the average, times a constant.
+// How many of them lie abreast, on the average, times sixteen.
 fn abreast(r: Reach) -> u64
     requires { ⌜ r .sum < 4294967296 ⌝ }
 {
@@ -99,9 +111,13 @@ fn abreast(r: Reach) -> u64
     16 * r.sum / (wide(r.high) - wide(r.low) + 1)
 }
 
-// Do the lines overlap less in columns than in rows? Either answer is right: it decides only the time.
+// Do the lines overlap less in columns than in rows, where many overlap? Either answer is right: it decides only the time.
 pub fn lie_flat(lines: &[u64]) -> bool
     requires { ⌜ length (now lines) ≤ 4097 ⌝ }
 {
-    abreast(reach_along(lines, true)) < abreast(reach_along(lines, false))
+    let rows = abreast(reach_along(lines, false));
+    if rows <= 16 {
+        return false;
+    }
+    abreast(reach_along(lines, true)) < rows
 }

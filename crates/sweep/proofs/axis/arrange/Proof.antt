@@ -16,26 +16,14 @@ abbrev μ-loop : tie.MeasureT-loop
 loop-holds : tie.Need-loop-holds Inv-loop μ-loop
 loop-holds c = (omega arith, arranging-none _ _)
 
-mul-k : tie.Need-mul-k Inv-loop μ-loop
-mul-k c = search needs
+mul-turned : tie.Need-mul-turned Inv-loop μ-loop
+mul-turned c = search needs
 
-slice-read-k : tie.Need-slice-read-k Inv-loop μ-loop
-slice-read-k c = search needs
+slice-read-turned : tie.Need-slice-read-turned Inv-loop μ-loop
+slice-read-turned c = search needs
 
-start-requires : tie.Need-start-requires Inv-loop μ-loop
-start-requires c κs = search needs
-
-seen-requires : tie.Need-seen-requires Inv-loop μ-loop
-seen-requires c κs = search needs
-
-end-requires : tie.Need-end-requires Inv-loop μ-loop
-end-requires c κs = search needs
-
-seen-requires-2 : tie.Need-seen-requires-2 Inv-loop μ-loop
-seen-requires-2 c κs = search needs
-
-join-requires : tie.Need-join-requires Inv-loop μ-loop
-join-requires c κs = search needs
+turned-requires : tie.Need-turned-requires Inv-loop μ-loop
+turned-requires c κs = search needs
 
 mul-lines : tie.Need-mul-lines Inv-loop μ-loop
 mul-lines c = search needs
@@ -50,7 +38,7 @@ loop-less : tie.Need-loop-less Inv-loop μ-loop
 loop-less c = search needs
 
 loop-again : tie.Need-loop-again Inv-loop μ-loop
-loop-again c = let l = c .before .before .before .before .before .before .before .loop in (omega arith, arranging-more (omega (arith, l .inv .1 .long)) (l .inv .1) (c .before .before .before .before .start .ensures) (c .before .before .end .ensures) (c .before .before .before .seen .ensures) (c .before .seen2 .ensures) (c .join .ensures))
+loop-again c = let l = c .before .before .before .loop in (omega arith, arranging-more (omega (arith, l .inv .1 .long)) (l .inv .1) (c .turned .ensures))
 
 same-length : tie.Need-same-length Inv-loop μ-loop
 same-length c = search needs
@@ -65,13 +53,9 @@ arrange-spec =
     Inv-loop
     μ-loop
     loop-holds
-    mul-k
-    slice-read-k
-    start-requires
-    seen-requires
-    end-requires
-    seen-requires-2
-    join-requires
+    mul-turned
+    slice-read-turned
+    turned-requires
     mul-lines
     slice-write-lines
     add-i
