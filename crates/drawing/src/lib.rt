@@ -1,7 +1,7 @@
 // The drawer: Algorithm BT-Ordered-Draw over a table of records.
 mod place;
 
-use crate::place::draw_left;
+use crate::place::draw_tree;
 use measure::prepare;
 use table::read;
 use table::words::left;
@@ -52,7 +52,7 @@ fn plan_of(table: &[u8], sizes: &[u16], placements: &mut [u16], nodes: usize) ->
     let mut roles = [0u16; 4097];
     let mut gaps = [0u16; 4097];
     let width = prepare(table, sizes, &mut roles, &mut gaps, root);
-    let height = draw_left(table, sizes, &roles, &gaps, placements, root, 0, 0);
+    let height = draw_tree(table, sizes, &roles, &gaps, placements, root);
     Plan {
         nodes: nodes as u16,
         width: width as u16,

@@ -8,12 +8,12 @@ use Rattle.drawing.proofs.Whole.{small-plan, hanging-root, plan-drawn, 
 use Rattle.drawing.proofs.plan_of.Statement.{statement}
 use Rattle.drawing.proofs.plan_of.Tie as tie
 
-small : (c : tie.After-slice-known2) → (c .before .before .before .before .before .before .before .before .before .before .before .before .before .before .before .args .nodes ≤ 4096) × ((c .before .before .before .before .before .before .before .before .prepare .result ≤ 37) × (c .before .before .draw-left .result ≤ 4096))
+small : (c : tie.After-slice-known2) → (c .before .before .before .before .before .before .before .before .before .before .before .before .before .before .before .args .nodes ≤ 4096) × ((c .before .before .before .before .before .before .before .before .prepare .result ≤ 37) × (c .before .before .draw-tree .result ≤ 4096))
 small c =
     let measured = c .before .before .before .before .before .before .before .before in
     let first = measured .before .before .before in
     let s = first .before .before .before .before in
-    small-plan _ (s .pre .0) _ (first .left .ensures .0) _ _ _ _ _ (s .pre .1 .1 .1 .1) (measured .prepare .ensures .wide) (c .before .before .draw-left .ensures)
+    small-plan _ (s .pre .0) _ (first .left .ensures .0) _ _ _ _ _ (s .pre .1 .1 .1 .1) (measured .prepare .ensures .wide) (c .before .before .draw-tree .ensures)
 
 left-requires : tie.Need-left-requires
 left-requires c κs =
@@ -31,14 +31,14 @@ prepare-requires c κs =
     let s = c .before .before .before .before .before .before in
     (s .pre .0, (chained-root _ _ (c .before .before .left .ensures .0) (s .pre .1 .0), (s .pre .1 .1 .0, (refl, refl))))
 
-slice-aggregate-draw-left : tie.Need-slice-aggregate-draw-left
-slice-aggregate-draw-left c = search needs
+slice-aggregate-draw-tree : tie.Need-slice-aggregate-draw-tree
+slice-aggregate-draw-tree c = search needs
 
-slice-aggregate-draw-left-2 : tie.Need-slice-aggregate-draw-left-2
-slice-aggregate-draw-left-2 c = search needs
+slice-aggregate-draw-tree-2 : tie.Need-slice-aggregate-draw-tree-2
+slice-aggregate-draw-tree-2 c = search needs
 
-draw-left-requires : tie.Need-draw-left-requires
-draw-left-requires c κs =
+draw-tree-requires : tie.Need-draw-tree-requires
+draw-tree-requires c κs =
     let measured = c .before .before .before .before .before in
     let first = measured .before .before .before in
     let s = first .before .before .before .before in (
@@ -63,7 +63,7 @@ returns c =
     let measured = c .before .before .before .before .before .before .before .before in
     let first = measured .before .before .before in
     let s = first .before .before .before .before in
-    plan-drawn _ _ _ _ _ _ _ (first .left .ensures .0) (s .pre .1 .1 .1 .1) (measured .prepare .ensures .wide) (c .before .before .draw-left .ensures)
+    plan-drawn _ _ _ _ _ _ _ (first .left .ensures .0) (s .pre .1 .1 .1 .1) (measured .prepare .ensures .wide) (c .before .before .draw-tree .ensures)
 
 pub plan-of-spec : {M : Type 1} → statement M
 plan-of-spec =
@@ -73,9 +73,9 @@ plan-of-spec =
     slice-aggregate-prepare
     slice-aggregate-prepare-2
     prepare-requires
-    slice-aggregate-draw-left
-    slice-aggregate-draw-left-2
-    draw-left-requires
+    slice-aggregate-draw-tree
+    slice-aggregate-draw-tree-2
+    draw-tree-requires
     cast-t20
     cast-t21
     cast-t22

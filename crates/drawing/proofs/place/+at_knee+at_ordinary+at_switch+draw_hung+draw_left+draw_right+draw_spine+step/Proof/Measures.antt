@@ -57,7 +57,7 @@ abbrev pub μ-draw-right : Measures 5 draw-right-kinds.ps ℕ
 μ-draw-right κs a = 5 * size (treeAt (a .0 .now) (a .1 .1 .1 .1 .1 .0)) + 3
 
 abbrev pub μ-draw-spine : Measures 5 draw-spine-kinds.ps ℕ
-μ-draw-spine κs a = 5 * size (treeAt (a .0 .now) (a .1 .1 .1 .1 .1 .0 .at)) + 2
+μ-draw-spine κs a = 5 * size (treeAt (a .0 .now) (a .1 .1 .1 .1 .1 .0)) + 2
 
 abbrev pub μ-step : Measures 5 step-kinds.ps ℕ
 μ-step κs a = 5 * unplaced (a .0 .now) (a .1 .1 .1 .1 .1 .0) + 1
