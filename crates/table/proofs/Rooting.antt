@@ -62,8 +62,8 @@ accepted t r e =
 pub grown-bad : (t sizes : List ℕ) → badTree t ≡ true → Grown t false sizes
 grown-bad t sizes e = record { good = rw e; filled = λ z. absurd (false≢true z) }
 
-pub marked-by : (t mark : List ℕ) (k : ℕ) (r : Bool) → Marked t mark → r ≡ not (eqb (getD mark k 0) 0) → r ≡ member k (chain t)
-marked-by t mark k r m e = e ∙ rw (m .marks k) (go (member k (chain t)))
+pub marked-by : (t mark : List ℕ) (k : ℕ) (r : Bool) → (k ≡ 0 → ⊥) → Marked t mark → r ≡ not (eqb (getD mark k 0) 0) → r ≡ member k (chain t)
+marked-by t mark k r n m e = e ∙ rw (m .marks k, ne-eqb k 0 n) (go (member k (chain t)))
   where
     go : (b : Bool) → not (eqb (cond b 1 0) 0) ≡ b
     go true = refl

@@ -1,6 +1,6 @@
 -- What the steps of a reading leave to the next one. No promise to a caller is here.
 use mathlib.Core.Path.{_≡_}
-use mathlib.Core.Bool.{Bool, true, false, cond, not, _&&_}
+use mathlib.Core.Bool.{Bool, true, false, cond, not, _&&_, _||_}
 use mathlib.Core.List.{List, [], _∷_}
 use Prim.Native.Nat.{ℕ, zero, suc, _≤_, _<_}
 use lib.Dec.{T, eqb}
@@ -31,10 +31,10 @@ pub record Blank (l : List ℕ) : Type 0 where
   pub long : length l ≡ 4097
   pub zeros : (k : ℕ) → getD l k 0 ≡ 0
 
--- mark has 1 at the records of the chain, 0 at the others.
+-- mark has 1 at zero, which is no child, and at the records of the chain, 0 at the others.
 pub record Marked (t mark : List ℕ) : Type 0 where
   pub long : length mark ≡ 4097
-  pub marks : (k : ℕ) → getD mark k 0 ≡ cond (member k (chain t)) 1 0
+  pub marks : (k : ℕ) → getD mark k 0 ≡ cond (eqb k 0 || member k (chain t)) 1 0
 
 -- What a walk along the chain answers.
 pub record Walked (t : List ℕ) (r : Reading) (list mark : List ℕ) : Type 0 where

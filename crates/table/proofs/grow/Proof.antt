@@ -37,11 +37,11 @@ same-length-2 c = search needs
 returns-2 : tie.Need-returns-2
 returns-2 c =
     let s = c .before .before .before .before .before .before .before .before in
-    grown-bad _ _ (off-chain _ _ (c .before .before .before .left .ensures .0) (c .before .before .if1 .left) (sym (marked-by _ _ _ _ (s .pre .1 .0) (c .before .marked .ensures)) ∙ not-true _ (c .if2 .taken)))
+    grown-bad _ _ (off-chain _ _ (c .before .before .before .left .ensures .0) (c .before .before .if1 .left) (sym (marked-by _ _ _ _ (c .before .before .if1 .left) (s .pre .1 .0) (c .before .marked .ensures)) ∙ not-true _ (c .if2 .taken)))
 
 -- Past the second test the root is on the chain, and past the third no node is named wrongly.
 on-chain : (c : tie.Else2) → member (c .before .before .before .left .result) (chainOf (c .before .before .before .before .before .before .before .before .args .table .now)) ≡ true
-on-chain c = sym (marked-by _ _ _ _ (c .before .before .before .before .before .before .before .before .pre .1 .0) (c .before .marked .ensures)) ∙ not-false _ (c .if2 .left)
+on-chain c = sym (marked-by _ _ _ _ (c .before .before .if1 .left) (c .before .before .before .before .before .before .before .before .pre .1 .0) (c .before .marked .ensures)) ∙ not-false _ (c .if2 .left)
 
 well-rooted : (c : tie.Else3) → Rooted (c .before .before .before .before .before .before .before .before .before .before .args .table .now)
 well-rooted c =

@@ -12,6 +12,9 @@ Inv-loop table chain₀ mark₀ records at₀ nodes₀ chain mark at nodes = Wal
 abbrev μ-loop : tie.MeasureT-loop
 μ-loop table chain₀ mark₀ records at₀ nodes₀ chain mark at nodes = length table / 8 - nodes
 
+slice-write-mark : tie.Need-slice-write-mark Inv-loop μ-loop
+slice-write-mark c = omega arith
+
 next-requires : tie.Need-next-requires Inv-loop μ-loop
 next-requires c κs = omega arith
 
@@ -54,8 +57,8 @@ returns-2 c =
 mul-mark : tie.Need-mul-mark Inv-loop μ-loop
 mul-mark c = omega arith
 
-slice-write-mark : tie.Need-slice-write-mark Inv-loop μ-loop
-slice-write-mark c = omega arith
+slice-write-mark-2 : tie.Need-slice-write-mark-2 Inv-loop μ-loop
+slice-write-mark-2 c = omega arith
 
 cast-chain : tie.Need-cast-chain Inv-loop μ-loop
 cast-chain c = omega arith
@@ -96,6 +99,7 @@ walk-spec =
     (tie.spec
     Inv-loop
     μ-loop
+    slice-write-mark
     next-requires
     loop-holds
     refused-requires
@@ -109,7 +113,7 @@ walk-spec =
     same-length-4
     returns-2
     mul-mark
-    slice-write-mark
+    slice-write-mark-2
     cast-chain
     mul-chain
     slice-write-chain
