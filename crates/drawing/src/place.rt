@@ -2,6 +2,7 @@
 use measure::Fork;
 use measure::fork_at;
 use measure::roles::Role;
+use measure::roles::is_switch;
 use measure::roles::role_at;
 ghost use mathlib.Core.Path.{_≡_};
 ghost use Prim.Native.Nat.{_+_, _*_, _<_, max};
@@ -11,7 +12,7 @@ ghost use Rattle.layout.specs.Spine.{Role as LayoutRole, knee, ordinary, switch
 ghost use Rattle.layout.specs.Held.{inwards as inwardsOf, far, Inside};
 ghost use Rattle.measure.specs.Forked.{sideOf, Forked};
 ghost use Rattle.measure.specs.Roles.{roleOf};
-ghost use Rattle.drawing.specs.Placing.{isKnee, isSwitch, point, handOf, walkTo, Given, Hanging, Hung, Going, Stepped};
+ghost use Rattle.drawing.specs.Placing.{isKnee, point, handOf, walkTo, Given, Hanging, Hung, Going, Stepped};
 
 // A walk along the spine of a drawing: the next node and its row, the lowest row used so far, the pending child, 0 for none; the hand that the node
 // is on, and its edge; W of the spine, and whether its drawing is on the right side.
@@ -57,19 +58,6 @@ fn is_knee(role: Role) -> bool
         Role::RightKnee => true,
         Role::OrdinaryRight => false,
         Role::SwitchLeft => false,
-    }
-}
-
-fn is_switch(role: Role) -> bool
-    ensures { λ r. ⌜ r ≡ isSwitch (roleOf role) ⌝ }
-{
-    match role {
-        Role::LeftKnee => false,
-        Role::OrdinaryLeft => false,
-        Role::SwitchRight => true,
-        Role::RightKnee => false,
-        Role::OrdinaryRight => false,
-        Role::SwitchLeft => true,
     }
 }
 

@@ -33,7 +33,7 @@ use Rattle.drawing.proofs.place.greater.Reads as greater-reads
 use Rattle.drawing.proofs.place.inwards.Reads as inwards-reads
 use Rattle.drawing.proofs.place.is_far.Reads as is-far-reads
 use Rattle.drawing.proofs.place.is_knee.Reads as is-knee-reads
-use Rattle.drawing.proofs.place.is_switch.Reads as is-switch-reads
+use Rattle.measure.proofs.roles.is_switch.Reads as is-switch-reads
 use Rattle.drawing.proofs.place.onward.Reads as onward-reads
 use Rattle.measure.proofs.roles.role_at.Reads as role-at-reads
 use Rattle.drawing.proofs.place.set_point.Reads as set-point-reads
