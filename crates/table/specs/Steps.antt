@@ -82,7 +82,12 @@ pub record Filled (t : List ℕ) (ks sizes : List ℕ) : Type 0 where
   pub sized : (k : ℕ) → T (member k ks) → getD sizes k 0 ≡ size (treeAt t k)
   pub none : getD sizes 0 0 ≡ 0
 
+-- The first n numbers of order are the n nodes, breadth first.
+pub record Ordered (t : List ℕ) (n : ℕ) (order : List ℕ) : Type 0 where
+  pub enough : n ≤ length order
+  pub queued : (n ≡ 0 → ⊥) → Queue t n (take n order)
+
 -- What the tests of cause 5 answer.
-pub record Grown (t : List ℕ) (r : Bool) (sizes : List ℕ) : Type 0 where
+pub record Grown (t : List ℕ) (r : Bool) (n : ℕ) (order : List ℕ) : Type 0 where
   pub good : r ≡ not (badTree t)
-  pub filled : r ≡ true → Filled t (chain t) sizes
+  pub ordered : r ≡ true → Ordered t n order

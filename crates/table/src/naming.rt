@@ -63,17 +63,17 @@ fn some_not_once(table: &[u8], chain: &[u16], nodes: usize, tally: &[u16], root:
 }
 
 // Whether the root is named, or another chained node not exactly once.
-pub fn misnamed(table: &[u8], chain: &[u16], nodes: usize, root: usize) -> bool
+pub fn misnamed(table: &[u8], chain: &[u16], nodes: usize, root: usize, tally: &mut [u16]) -> bool
     requires { ⌜ Listed (now table) nodes (now chain) ⌝ }
     requires { ⌜ badLinks (now table) ≡ false ⌝ }
     requires { ⌜ root ≡ rootOf (now table) ⌝ }
     requires { ⌜ root < 4097 ⌝ }
+    requires { ⌜ Blank (now tally) ⌝ }
     ensures { λ r. ⌜ r ≡ (not (eqb (named (now (table .entry)) root) 0) || notOnce (now (table .entry))) ⌝ }
 {
-    let mut tally = [0u16; 4097];
-    count(table, chain, nodes, &mut tally);
+    count(table, chain, nodes, tally);
     if tally[root] != 0 {
         return true;
     }
-    some_not_once(table, chain, nodes, &tally, root)
+    some_not_once(table, chain, nodes, tally, root)
 }
