@@ -1,4 +1,4 @@
--- The walk along the chain: what its loop keeps, and how it ends. Rests on Lists, Chain and Causes.
+-- The walk along the chain: what its loop keeps, and how it ends. Rests on Lists, Chain, Tally and Causes.
 use mathlib.Core.Path.{_≡_, refl, sym, ap, _∙_}
 use mathlib.Core.Logic.{_⊎_, inl, inr, ⊎-elim, ⊎-map}
 use mathlib.Core.Bool.{Bool, true, false, cond, _||_, or-true, or-false}
@@ -13,10 +13,11 @@ use lib.Seq.{take-suc-set, length-take-le, getD-set-same, getD-set-other}
 use borrow.Author.Tests.{eq-eqb, ne-eqb, lt-leb}
 use Rattle.table.specs.Lists.{any, member, repeats, count}
 use Rattle.table.specs.Table.{records, nextOf, follow, chain}
-use Rattle.table.specs.Refusal.{beyond, badChain}
+use Rattle.table.specs.Refusal.{beyond, badChain, links}
 use Rattle.table.specs.Steps.{Shaped, Blank, Walked}
 use Rattle.table.proofs.Lists.{or-T, or-false as or-false², any-false, member-append, member-count, member-none, same, same-one, alike, Alike, count-append, Distinct, repeats-count, length-between}
 use Rattle.table.proofs.Chain.{follow-none}
+use Rattle.table.proofs.Tally.{Counts, counted-all}
 use Rattle.table.proofs.Causes.{sound-distinct, sound-within}
 
 -- After i records, with the walk at record `at`: they are the start of the chain, distinct and within the table, and they and zero are marked.
@@ -54,8 +55,8 @@ follow-some n t zero p = absurd (p refl)
 follow-some n t (suc k) p = refl
 
 -- Cause 3 holds if it cannot be otherwise.
-refused : (t list mark : List ℕ) → (badChain t ≡ false → ⊥) → Walked t (record { refusal = 3; nodes = 0 }) list mark
-refused t list mark h = record { refusal = go (badChain t) h; chained = λ r. absurd (omega arith); marked = λ r. absurd (omega arith) }
+refused : (t list mark tally : List ℕ) → (badChain t ≡ false → ⊥) → Walked t (record { refusal = 3; nodes = 0 }) list mark tally
+refused t list mark tally h = record { refusal = go (badChain t) h; chained = λ r. absurd (omega arith); marked = λ r. absurd (omega arith); tallied = λ r. absurd (omega arith) }
   where
     go : (b : Bool) → (b ≡ false → ⊥) → _≡_ {A = ℕ} 3 (cond b 3 0)
     go true h = refl
@@ -83,8 +84,8 @@ module _ (t : List ℕ) (i at : ℕ) (list mark : List ℕ) (w : Walk t i at lis
     long : i ≤ length list
     long = omega (arith, w .room, w .list-long, shaped .room)
 
-    pub walk-end : Walked t (record { refusal = 0; nodes = i }) list mark
-    walk-end = record {
+    pub walk-end : (tally : List ℕ) → Counts (links t (take i list)) tally → Walked t (record { refusal = 0; nodes = i }) list mark tally
+    walk-end tally d = record {
       refusal = rw sound;
       chained =
           λ r. record {
@@ -95,6 +96,7 @@ module _ (t : List ℕ) (i at : ℕ) (list mark : List ℕ) (w : Walk t i at lis
             listed = sym ended;
           };
       marked = λ r. record { long = w .mark-long; marks = rw ended (w .marks) };
+      tallied = λ r. counted-all t tally (take i list) (sym ended) d;
     }
 
   module _ (on : at ≡ 0 → ⊥) where
@@ -105,12 +107,12 @@ module _ (t : List ℕ) (i at : ℕ) (list mark : List ℕ) (w : Walk t i at lis
     unfolding count
     one-more = rw (more, count-append) (omega (arith, same-one at at refl))
 
-    pub walk-beyond : records t ≤ at → Walked t (record { refusal = 3; nodes = 0 }) list mark
-    walk-beyond b = refused t list mark (λ s. omega (arith, sound-within t s at (member-count at (chain t) .1 (omega (arith, one-more)))))
+    pub walk-beyond : (tally : List ℕ) → records t ≤ at → Walked t (record { refusal = 3; nodes = 0 }) list mark tally
+    walk-beyond tally b = refused t list mark tally (λ s. omega (arith, sound-within t s at (member-count at (chain t) .1 (omega (arith, one-more)))))
 
-    pub walk-twice : (getD mark at 0 ≡ 0 → ⊥) → Walked t (record { refusal = 3; nodes = 0 }) list mark
-    walk-twice m =
-        refused t list mark
+    pub walk-twice : (tally : List ℕ) → (getD mark at 0 ≡ 0 → ⊥) → Walked t (record { refusal = 3; nodes = 0 }) list mark tally
+    walk-twice tally m =
+        refused t list mark tally
         (λ s. omega (arith, one-more, repeats-count (chain t) .0 (sound-distinct t s) at, member-count at (take i list) .0 (seen at on (member at (take i list)) (λ e. m (w .marks at ∙ e)))))
 
     module _ (shaped : Shaped t) (b : at < records t) (m : getD mark at 0 ≡ 0) where

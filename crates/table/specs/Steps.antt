@@ -36,16 +36,17 @@ pub record Marked (t mark : List ℕ) : Type 0 where
   pub long : length mark ≡ 4097
   pub marks : (k : ℕ) → getD mark k 0 ≡ cond (eqb k 0 || member k (chain t)) 1 0
 
--- What a walk along the chain answers.
-pub record Walked (t : List ℕ) (r : Reading) (list mark : List ℕ) : Type 0 where
-  pub refusal : r .refusal ≡ cond (badChain t) 3 0
-  pub chained : r .refusal ≡ 0 → Listed t (r .nodes) list
-  pub marked : r .refusal ≡ 0 → Marked t mark
-
 -- tally has how often each record is named as a child.
 pub record Tallied (t tally : List ℕ) : Type 0 where
   pub long : length tally ≡ 4097
-  pub tallies : (k : ℕ) → getD tally k 0 ≡ named t k
+  pub tallies : (k : ℕ) → k < 4097 → getD tally k 0 ≡ named t k
+
+-- What a walk along the chain answers.
+pub record Walked (t : List ℕ) (r : Reading) (list mark tally : List ℕ) : Type 0 where
+  pub refusal : r .refusal ≡ cond (badChain t) 3 0
+  pub chained : r .refusal ≡ 0 → Listed t (r .nodes) list
+  pub marked : r .refusal ≡ 0 → Marked t mark
+  pub tallied : r .refusal ≡ 0 → Tallied t tally
 
 -- The parts of cause 5 that are left when the root is on the chain: another chained node is not named exactly once, one is not reached.
 unfoldable pub notOnce : List ℕ → Bool

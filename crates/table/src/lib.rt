@@ -19,7 +19,7 @@ ghost use mathlib.Core.Bool.{cond, false};
 ghost use lib.ListN.{length};
 ghost use Rattle.table.specs.Refusal.{badLength, badHead, badLinks, refusal};
 ghost use Rattle.table.specs.Reading.{TracedOf, ReadOf};
-ghost use Rattle.table.specs.Steps.{Blank, Listed, Marked, Grown};
+ghost use Rattle.table.specs.Steps.{Blank, Listed, Marked, Tallied, Grown};
 
 // A refusal, or 0 and the number of nodes.
 pub struct Reading {
@@ -59,12 +59,12 @@ fn shape(table: &[u8]) -> u16
     0
 }
 
-// Whether the records of the chain make a tree; then lists its nodes, breadth first.
+// Whether the records of the chain make a tree; then lists its nodes, breadth first, in place of how often they are named.
 fn grow(table: &[u8], chain: &[u16], nodes: usize, mark: &[u16], order: &mut [u16]) -> bool
     requires { ⌜ Listed (now table) nodes (now chain) ⌝ }
     requires { ⌜ Marked (now table) (now mark) ⌝ }
     requires { ⌜ badLinks (now table) ≡ false ⌝ }
-    requires { ⌜ Blank (now order) ⌝ }
+    requires { ⌜ Tallied (now table) (now order) ⌝ }
     ensures { λ r. ⌜ Grown (now (table .entry)) r nodes (now (order .exit)) ⌝ }
 {
     let root = left(table, 0);
@@ -91,7 +91,7 @@ pub fn trace(table: &[u8], places: usize, chain: &mut [u16], order: &mut [u16]) 
         return refused(unfit);
     }
     let mut mark = [0u16; 4097];
-    let walked = walk(table, chain, &mut mark);
+    let walked = walk(table, chain, &mut mark, order);
     if walked.refusal != 0 {
         return walked;
     }

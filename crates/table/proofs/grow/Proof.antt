@@ -33,45 +33,41 @@ returns-2 c =
 on-chain : (c : tie.Else2) → member (c .before .before .before .left .result) (chainOf (c .before .before .before .before .before .before .before .before .args .table .now)) ≡ true
 on-chain c = sym (marked-by _ _ _ _ (c .before .before .if1 .left) (c .before .before .before .before .before .before .before .before .pre .1 .0) (c .before .marked .ensures)) ∙ not-false _ (c .if2 .left)
 
-well-rooted : (c : tie.Else3) → Rooted (c .before .before .before .before .before .before .before .before .before .before .before .before .before .args .table .now)
+well-rooted : (c : tie.Else3) → Rooted (c .before .before .before .before .before .before .before .before .before .before .before .args .table .now)
 well-rooted c =
-    let named = c .before .before .before in
-    let m = named .before .before in
+    let m = c .before .before .before in
     let s = m .before .before .before .before .before .before .before .before in
-    rooted _ _ (m .before .before .before .left .ensures .0) (m .before .before .if1 .left) (on-chain m) (sym (named .misnamed .ensures) ∙ c .if3 .left) (s .pre .0 .shaped) (s .pre .0 .sound) (s .pre .1 .1 .0)
+    rooted _ _ (m .before .before .before .left .ensures .0) (m .before .before .if1 .left) (on-chain m) (sym (c .before .misnamed .ensures) ∙ c .if3 .left) (s .pre .0 .shaped) (s .pre .0 .sound) (s .pre .1 .1 .0)
 
 misnamed-requires : tie.Need-misnamed-requires
 misnamed-requires c κs =
     let m = c .before in
     let s = m .before .before .before .before .before .before .before .before in
     let h = sound-within _ (s .pre .0 .sound) (m .before .before .before .left .result) (T-true _ .1 (on-chain m)) in
-    (s .pre .0, (s .pre .1 .1 .0, (m .before .before .before .left .ensures .0, (omega (arith, h, s .pre .0 .shaped .room), s .pre .1 .1 .1))))
+    (s .pre .0, (m .before .before .before .left .ensures .0, (omega (arith, h, s .pre .0 .shaped .room), s .pre .1 .1 .1)))
 
 same-length : tie.Need-same-length
 same-length c = search needs
 
 returns-3 : tie.Need-returns-3
 returns-3 c =
-    let named = c .before .before .before in
-    let m = named .before .before in
-    grown-bad _ _ _ (ill-named _ _ (m .before .before .before .left .ensures .0) (m .before .before .if1 .left) (sym (named .misnamed .ensures) ∙ c .if3 .taken))
+    let m = c .before .before .before in
+    grown-bad _ _ _ (ill-named _ _ (m .before .before .before .left .ensures .0) (m .before .before .if1 .left) (sym (c .before .misnamed .ensures) ∙ c .if3 .taken))
 
 reaches-requires : tie.Need-reaches-requires
 reaches-requires c κs =
-    let named = c .before .before .before .before in
-    let s = named .before .before .before .before .before .before .before .before .before .before in
-    (well-rooted (c .before), (s .pre .0 .nodes, named .misnamed .kept .1 .1 .1 .1 .0 ∙ s .pre .1 .1 .1 .long))
+    let s = c .before .before .before .before .before .before .before .before .before .before .before .before in
+    (well-rooted (c .before), (s .pre .0 .nodes, s .pre .1 .1 .1 .long))
 
 same-length-2 : tie.Need-same-length-2
 same-length-2 c = search needs
 
 returns-4 : tie.Need-returns-4
 returns-4 c =
-    let q = c .before .before in
-    let named = q .before .before .before .before .before in
+    let named = c .before .before .before .before .before in
     let m = named .before .before in
-    grown _ _ (m .before .before .before .left .ensures .0) (m .before .before .if1 .left) (on-chain m) (sym (named .misnamed .ensures) ∙ q .before .before .if3 .left) _ _ _
-    (q .reaches .ensures .0) (q .reaches .ensures .1)
+    grown _ _ (m .before .before .before .left .ensures .0) (m .before .before .if1 .left) (on-chain m) (sym (named .misnamed .ensures) ∙ c .before .before .before .before .if3 .left) _ _ _
+    (c .before .before .reaches .ensures .0) (c .before .before .reaches .ensures .1)
 
 pub grow-spec : {M : Type 1} → statement M
 grow-spec =

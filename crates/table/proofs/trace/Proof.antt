@@ -24,35 +24,41 @@ returns c = rw (c .refused .ensures) (refused-form _ _ _ _ _ (c .before .before 
 formed : (c : tie.Else1) → Shaped (c .before .before .before .before .before .args .table .now)
 formed c = shaped _ (sym (c .before .shape .ensures) ∙ c .if1 .left)
 
-listed : (c : tie.Else2) → let w = c .before .before .before .before .before in Listed (w .before .before .before .before .before .before .before .before .args .table .now) (w .walk .result .nodes) (w .walk .last .1 .0)
-listed c = c .before .before .before .before .before .walk .ensures .chained (c .if2 .left)
+listed : (c : tie.Else2) → let w = c .before .before .before .before .before .before .before in Listed (w .before .before .before .before .before .before .before .before .before .args .table .now) (w .walk .result .nodes) (w .walk .last .1 .0)
+listed c = c .before .before .before .before .before .before .before .walk .ensures .chained (c .if2 .left)
 
-linked : (c : tie.Else3) → badLinks (c .before .before .before .before .before .before .before .before .before .before .before .before .before .before .before .before .before .args .table .now) ≡ false
+linked : (c : tie.Else3) → badLinks (c .before .before .before .before .before .before .before .before .before .before .before .before .before .before .before .before .before .before .before .before .args .table .now) ≡ false
 linked c = sym (c .before .strays .ensures) ∙ c .if3 .left
 
 slice-aggregate-walk : tie.Need-slice-aggregate-walk
 slice-aggregate-walk c = search needs
 
 walk-requires : tie.Need-walk-requires
-walk-requires c κs = (formed (c .before .before), (c .before .before .before .before .before .before .before .pre .0, blank))
+walk-requires c κs = let p = c .before .before .before .before .before .before .before .before .pre in (formed (c .before .before .before), (p .0, (blank, p .1)))
 
 same-length : tie.Need-same-length
 same-length c = search needs
 
+same-length-2 : tie.Need-same-length-2
+same-length-2 c = search needs
+
 returns-2 : tie.Need-returns-2
-returns-2 c = let w = c .before .before .before .before .before in refused-chain _ _ _ _ _ (formed (w .before .before .before)) (w .walk .ensures .refusal) (c .if2 .taken)
+returns-2 c = let w = c .before .before .before .before .before .before .before in refused-chain _ _ _ _ _ (formed (w .before .before .before .before)) (w .walk .ensures .refusal) (c .if2 .taken)
 
 slice-aggregate-strays : tie.Need-slice-aggregate-strays
 slice-aggregate-strays c = search needs
 
 strays-requires : tie.Need-strays-requires
-strays-requires c κs = let e = c .before .before in (listed e, e .before .before .before .before .before .walk .ensures .marked (e .if2 .left))
+strays-requires c κs = let e = c .before .before in (listed e, e .before .before .before .before .before .before .before .walk .ensures .marked (e .if2 .left))
 
 refused-requires-2 : tie.Need-refused-requires-2
 refused-requires-2 c κs = search needs
 
-same-length-2 : tie.Need-same-length-2
-same-length-2 c = search needs
+same-length-3 : tie.Need-same-length-3
+same-length-3 c = search needs
+
+same-length-4 : tie.Need-same-length-4
+same-length-4 c = search needs
 
 returns-3 : tie.Need-returns-3
 returns-3 c =
@@ -66,17 +72,17 @@ grow-requires : tie.Need-grow-requires
 grow-requires c κs =
     let d = c .before .before .before in
     let e = d .before .before .before .before in
-    let w = e .before .before .before .before .before in
-    (listed e, (w .walk .ensures .marked (e .if2 .left), (linked d, w .before .before .before .before .before .before .before .before .pre .1)))
+    let w = e .before .before .before .before .before .before .before in
+    (listed e, (w .walk .ensures .marked (e .if2 .left), (linked d, w .walk .ensures .tallied (e .if2 .left))))
 
 refused-requires-3 : tie.Need-refused-requires-3
 refused-requires-3 c κs = search needs
 
-same-length-3 : tie.Need-same-length-3
-same-length-3 c = search needs
+same-length-5 : tie.Need-same-length-5
+same-length-5 c = search needs
 
-same-length-4 : tie.Need-same-length-4
-same-length-4 c = search needs
+same-length-6 : tie.Need-same-length-6
+same-length-6 c = search needs
 
 returns-4 : tie.Need-returns-4
 returns-4 c =
@@ -91,11 +97,11 @@ mul-if5 c = search needs
 refused-requires-4 : tie.Need-refused-requires-4
 refused-requires-4 c κs = search needs
 
-same-length-5 : tie.Need-same-length-5
-same-length-5 c = search needs
+same-length-7 : tie.Need-same-length-7
+same-length-7 c = search needs
 
-same-length-6 : tie.Need-same-length-6
-same-length-6 c = search needs
+same-length-8 : tie.Need-same-length-8
+same-length-8 c = search needs
 
 returns-5 : tie.Need-returns-5
 returns-5 c =
@@ -105,11 +111,11 @@ returns-5 c =
     rw (c .refused4 .ensures)
     (refused-placements _ _ _ _ (l .shaped) (l .sound) (linked d) (not-true _ (sym (g .grow .ensures .good) ∙ not-false _ (c .before .before .if4 .left))) (c .before .if5 .taken))
 
-same-length-7 : tie.Need-same-length-7
-same-length-7 c = search needs
+same-length-9 : tie.Need-same-length-9
+same-length-9 c = search needs
 
-same-length-8 : tie.Need-same-length-8
-same-length-8 c = search needs
+same-length-10 : tie.Need-same-length-10
+same-length-10 c = search needs
 
 returns-6 : tie.Need-returns-6
 returns-6 c =
@@ -129,23 +135,25 @@ trace-spec =
     slice-aggregate-walk
     walk-requires
     same-length
+    same-length-2
     returns-2
     slice-aggregate-strays
     strays-requires
     refused-requires-2
-    same-length-2
+    same-length-3
+    same-length-4
     returns-3
     slice-aggregate-grow
     grow-requires
     refused-requires-3
-    same-length-3
-    same-length-4
+    same-length-5
+    same-length-6
     returns-4
     mul-if5
     refused-requires-4
-    same-length-5
-    same-length-6
-    returns-5
     same-length-7
     same-length-8
+    returns-5
+    same-length-9
+    same-length-10
     returns-6)
