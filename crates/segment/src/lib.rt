@@ -28,13 +28,13 @@ pub fn cross(p: Point, a: Point, b: Point) -> i64
         - minus(a.row, p.row) * minus(b.column, p.column)
 }
 
-fn least(a: u16, b: u16) -> u16
+pub fn least(a: u16, b: u16) -> u16
     ensures { λ r. ⌜ r ≡ min a b ⌝ }
 {
     if a < b { a } else { b }
 }
 
-fn most(a: u16, b: u16) -> u16
+pub fn most(a: u16, b: u16) -> u16
     ensures { λ r. ⌜ r ≡ max a b ⌝ }
 {
     if a < b { b } else { a }

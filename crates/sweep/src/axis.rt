@@ -1,12 +1,13 @@
 // Along which axis lines are sorted: by rows, or by columns where they overlap less in these (specs/Arranged).
+use crate::line::HALF;
 use crate::line::end;
 use crate::line::number;
 use crate::line::pack;
 use crate::line::start;
 use crate::line::wide;
-use crate::meeting::least;
-use crate::meeting::most;
 use segment::Point;
+use segment::least;
+use segment::most;
 ghost use mathlib.Core.Path.{_≡_};
 ghost use Prim.Native.Nat.{_+_, _≤_, _<_};
 ghost use lib.ListN.{length};
@@ -37,11 +38,11 @@ fn seen(p: Point, across: bool) -> Point
 }
 
 // A line, with columns and rows exchanged or not, from its end with the lesser number.
-fn turned(k: u64, across: bool) -> u64
+fn aligned(k: u64, across: bool) -> u64
     ensures { λ r. ⌜ Joined (view across (startOf k)) (view across (endOf k)) r ⌝ }
 {
     if !across {
-        if k % 4294967296 <= k / 4294967296 {
+        if k % HALF <= k / HALF {
             return k;
         }
     }
@@ -54,7 +55,7 @@ pub fn arrange(lines: &mut [u64], across: bool)
 {
     let mut i = 0;
     while i < lines.len() {
-        lines[i] = turned(lines[i], across);
+        lines[i] = aligned(lines[i], across);
         i += 1;
     }
 }
@@ -101,7 +102,7 @@ fn reach_along(lines: &[u64], across: bool) -> Reach
     r
 }
 
-// How many of them lie abreast, on the average, times sixteen.
+// How many of these lie abreast, on the average, in sixteenths.
 fn abreast(r: Reach) -> u64
     requires { ⌜ r .sum < 4294967296 ⌝ }
 {
@@ -111,7 +112,7 @@ fn abreast(r: Reach) -> u64
     16 * r.sum / (wide(r.high) - wide(r.low) + 1)
 }
 
-// Do the lines overlap less in columns than in rows, where many overlap? Either answer is right: it decides only the time.
+// Do many lines, more than seven, lie abreast by rows, and fewer by columns? Either answer is right: it decides only the time.
 pub fn lie_flat(lines: &[u64]) -> bool
     requires { ⌜ length (now lines) ≤ 4097 ⌝ }
 {

@@ -5,14 +5,15 @@ pub mod meeting;
 
 use crate::axis::arrange;
 use crate::axis::lie_flat;
+use crate::line::HALF;
 use crate::line::end;
 use crate::line::start;
 use crate::meeting::Meeting;
 use crate::meeting::against;
-use crate::meeting::least;
-use crate::meeting::most;
 use crate::meeting::utmost;
 use crate::meeting::worse;
+use segment::least;
+use segment::most;
 use sort::sort;
 ghost use mathlib.Core.Path.{_≡_};
 ghost use mathlib.Core.Logic.{_↔_};
@@ -39,7 +40,7 @@ fn worst_before(lines: &[u64], i: usize) -> Meeting
     let mut j = i;
     while 0 < j {
         let before = lines[j - 1];
-        if before / 4294967296 <= k % 4294967296 {
+        if before / HALF <= k % HALF {
             return worst;
         }
         worst = worse(worst, against(p, q, low, high, start(before), end(before)));
@@ -84,7 +85,7 @@ pub fn same_end(lines: &[u64]) -> bool
 {
     let mut i = 1;
     while i < lines.len() {
-        if lines[i - 1] / 4294967296 == lines[i] / 4294967296 {
+        if lines[i - 1] / HALF == lines[i] / HALF {
             return true;
         }
         i += 1;

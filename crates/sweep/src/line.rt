@@ -5,6 +5,9 @@ ghost use Prim.Native.Nat.{_<_};
 ghost use Rattle.segment.specs.Test.{number as numberOf};
 ghost use Rattle.sweep.specs.Line.{startOf, endOf};
 
+// The number of a line's end stands above so many, those of starts.
+pub const HALF: u64 = 0x1_0000_0000;
+
 // A number of 16 bits, as one of 64.
 pub fn wide(n: u16) -> u64
     ensures { λ r. ⌜ (r ≡ n) × (r < 65536) ⌝ }
@@ -23,7 +26,7 @@ pub fn number(p: Point) -> u64
 pub fn pack(p: Point, q: Point) -> u64
     ensures { λ r. ⌜ (startOf r ≡ p) × (endOf r ≡ q) ⌝ }
 {
-    number(q) * 4294967296 + number(p)
+    number(q) * HALF + number(p)
 }
 
 pub fn start(k: u64) -> Point
@@ -39,7 +42,7 @@ pub fn end(k: u64) -> Point
     ensures { λ r. ⌜ r ≡ endOf k ⌝ }
 {
     Point {
-        column: (k / 4294967296 % 65536) as u16,
-        row: (k / 281474976710656) as u16,
+        column: (k / HALF % 65536) as u16,
+        row: (k / 0x1_0000_0000_0000) as u16,
     }
 }

@@ -1,6 +1,8 @@
 // How two lines meet (specs/Meetings).
 use segment::Point;
 use segment::clash;
+use segment::least;
+use segment::most;
 ghost use mathlib.Core.Path.{_≡_};
 ghost use mathlib.Core.Bool.{true};
 ghost use mathlib.Core.Logic.{_⊎_};
@@ -41,18 +43,6 @@ pub fn utmost(m: Meeting) -> bool
         Meeting::Apart => false,
         Meeting::Clashing => true,
     }
-}
-
-pub fn least(a: u16, b: u16) -> u16
-    ensures { λ r. ⌜ r ≡ min a b ⌝ }
-{
-    if a < b { a } else { b }
-}
-
-pub fn most(a: u16, b: u16) -> u16
-    ensures { λ r. ⌜ r ≡ max a b ⌝ }
-{
-    if a < b { b } else { a }
 }
 
 // Are a and b both below low, or both above high?

@@ -1,5 +1,6 @@
 // Conditions 21 to 23 over lines as numbers: two that end at one point, one that does not go down, two that share a point which does not end both.
 use sort::sort;
+use sweep::line::HALF;
 use sweep::line::end;
 use sweep::line::start;
 use sweep::meeting::Meeting;
@@ -22,7 +23,7 @@ fn rises_at(k: u64) -> bool
     if p.row < q.row {
         return false;
     }
-    k % 4294967296 != k / 4294967296
+    k % HALF != k / HALF
 }
 
 // Does one of the lines not go down?

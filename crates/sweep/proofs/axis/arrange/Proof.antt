@@ -16,14 +16,14 @@ abbrev μ-loop : tie.MeasureT-loop
 loop-holds : tie.Need-loop-holds Inv-loop μ-loop
 loop-holds c = (omega arith, arranging-none _ _)
 
-mul-turned : tie.Need-mul-turned Inv-loop μ-loop
-mul-turned c = search needs
+mul-aligned : tie.Need-mul-aligned Inv-loop μ-loop
+mul-aligned c = search needs
 
-slice-read-turned : tie.Need-slice-read-turned Inv-loop μ-loop
-slice-read-turned c = search needs
+slice-read-aligned : tie.Need-slice-read-aligned Inv-loop μ-loop
+slice-read-aligned c = search needs
 
-turned-requires : tie.Need-turned-requires Inv-loop μ-loop
-turned-requires c κs = search needs
+aligned-requires : tie.Need-aligned-requires Inv-loop μ-loop
+aligned-requires c κs = search needs
 
 mul-lines : tie.Need-mul-lines Inv-loop μ-loop
 mul-lines c = search needs
@@ -38,7 +38,7 @@ loop-less : tie.Need-loop-less Inv-loop μ-loop
 loop-less c = search needs
 
 loop-again : tie.Need-loop-again Inv-loop μ-loop
-loop-again c = let l = c .before .before .before .loop in (omega arith, arranging-more (omega (arith, l .inv .1 .long)) (l .inv .1) (c .turned .ensures))
+loop-again c = let l = c .before .before .before .loop in (omega arith, arranging-more (omega (arith, l .inv .1 .long)) (l .inv .1) (c .aligned .ensures))
 
 same-length : tie.Need-same-length Inv-loop μ-loop
 same-length c = search needs
@@ -53,9 +53,9 @@ arrange-spec =
     Inv-loop
     μ-loop
     loop-holds
-    mul-turned
-    slice-read-turned
-    turned-requires
+    mul-aligned
+    slice-read-aligned
+    aligned-requires
     mul-lines
     slice-write-lines
     add-i

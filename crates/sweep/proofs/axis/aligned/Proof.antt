@@ -2,8 +2,8 @@
 use borrow.Author.Tests.{not-true}
 use Rattle.sweep.proofs.Arranging.{joined-same, joined-by}
 use borrow.Author.Needs.{needs}
-use Rattle.sweep.proofs.axis.turned.Statement.{statement}
-use Rattle.sweep.proofs.axis.turned.Tie as tie
+use Rattle.sweep.proofs.axis.aligned.Statement.{statement}
+use Rattle.sweep.proofs.axis.aligned.Tie as tie
 
 returns : tie.Need-returns
 returns c = let s = c .before .before in joined-same (s .args .across) (s .args .k) (not-true (s .args .across) (c .before .if1 .taken)) (c .if2 .taken)
@@ -26,8 +26,8 @@ join-requires c κs = search needs
 returns-2 : tie.Need-returns-2
 returns-2 c = let s = c .before .before .before .before .before .before in joined-by (s .args .across) (s .args .k) (c .before .before .before .before .start .ensures) (c .before .before .end .ensures) (c .before .before .before .seen .ensures) (c .before .seen2 .ensures) (c .join .ensures)
 
-pub turned-spec : {M : Type 1} → statement M
-turned-spec =
+pub aligned-spec : {M : Type 1} → statement M
+aligned-spec =
     tie.close
     (tie.spec
     returns
