@@ -5,7 +5,7 @@ ghost use Prim.Native.Nat.{_<_};
 ghost use Rattle.segment.specs.Test.{number as numberOf};
 ghost use Rattle.sweep.specs.Line.{startOf, endOf};
 
-// The number of a line's end stands above so many, those of starts.
+// What a step of the end adds to a line's number: more than the number of any start.
 pub const HALF: u64 = 0x1_0000_0000;
 
 // A number of 16 bits, as one of 64.
