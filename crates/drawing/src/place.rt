@@ -223,18 +223,8 @@ fn draw_spine(
     while w.at != 0 {
         w = step(table, sizes, roles, gaps, placements, w);
     }
-    let below = w.lowest + 1;
-    draw_hung(
-        table,
-        sizes,
-        roles,
-        gaps,
-        placements,
-        w,
-        w.pending,
-        1,
-        below,
-    )
+    let row = w.lowest + 1;
+    draw_hung(table, sizes, roles, gaps, placements, w, w.pending, 1, row)
 }
 
 // A drawing on the left side, by these steps. Answers the first row below it.

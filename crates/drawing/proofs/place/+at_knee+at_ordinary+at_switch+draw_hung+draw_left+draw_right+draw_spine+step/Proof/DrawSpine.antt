@@ -55,8 +55,8 @@ module _ (t : ℕ) where
       let head = c .before .before .before .before .before .before in
       walked-on _ _ _ _ _ _ _ _ _ (head .loop .inv) (c .before .before .step .ensures _ (head .loop .inv .going)) (c .before .before .step .kept .1 .1 .1 .1 .0)
 
-  add-below : lts.Need-add-below (draw-spine-claims t) (draw-spine-at t) reads.Post Inv-loop μ-loop
-  add-below c =
+  add-row : lts.Need-add-row (draw-spine-claims t) (draw-spine-at t) reads.Post Inv-loop μ-loop
+  add-row c =
       let head = c .before .before .before in
       omega (arith, hanging-end _ _ _ _ (c .before .if1 .left) _ (head .loop .inv .going) .rows)
 
@@ -95,7 +95,7 @@ draw-spine-closed t =
     (step-requires t)
     (loop-less t)
     (loop-again t)
-    (add-below t)
+    (add-row t)
     (draw-hung-requires t)
     (same-length t)
     (returns t)
