@@ -24,7 +24,7 @@ ghost use Rattle.sort.specs.Order.{Pairs, Ascending};
 ghost use Rattle.sweep.specs.Line.{last, Onward};
 ghost use Rattle.sweep.specs.Meetings.{WorstFrom, Worst};
 
-// The worst meeting of line i with a line before it. Lines are sorted by their ends: where one ends before line i starts, so do all before that.
+// The worst meeting of line i with a line before it. Lines are sorted by their ends: where one ends at the start of line i or before, so do all before that.
 fn worst_before(lines: &[u64], i: usize) -> Meeting
     requires { ⌜ i < length (now lines) ⌝ }
     requires { ⌜ Onward (length (now lines)) (now lines) ⌝ }
