@@ -2,7 +2,7 @@
 //   bench PLAN REFERENCE FOLDER: the two programs, and a folder for the tables
 mod oracle;
 use oracle::ours;
-use oracle::reference::{timed_table, Reference, SHAPES};
+use oracle::reference::{timed_sheet, timed_table, Reference, SHAPES, SHEETS};
 use std::fs::File;
 use std::hint::black_box;
 use std::process::{Command, Stdio};
@@ -81,6 +81,19 @@ fn main() {
             let t = two(1, || run(plan, &file), || run(reference, &file));
             line += &row("program", t);
             println!("{line}");
+        }
+    }
+    println!("sheets that the drawer did not make");
+    for n in [64, 512, 4096] {
+        for sheet in SHEETS {
+            for shape in if sheet == "slanting" { &["comb"][..] } else { &SHAPES[..] } {
+                let (table, places) = timed_sheet(sheet, shape, n);
+                assert_eq!((ours::check(&table, &places), theirs.check(&table, &places)), (0, 0));
+                let t = two(3,
+                    || { black_box(ours::check(black_box(&table), &places)); },
+                    || { black_box(theirs.check(black_box(&table), &places)); });
+                println!("{n:>4} {sheet:<14}{shape:<12}{}", row("check", t));
+            }
         }
     }
 }

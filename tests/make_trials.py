@@ -283,6 +283,20 @@ def random_checks(t, rng):
         t.check()
 
 
+def level_checks(t, rng):
+    """Wide, low drawings, whose lines are sorted by columns: good ones, and some with a few nodes moved."""
+    for name, make in trees.shapes(rng)[5:]:
+        for n in (rng.randint(60, 200), rng.randint(513, 700)):
+            tree = make(n)
+            data, record = trees.table(tree, rng, extra=rng.randint(0, 2))
+            points = stretched(tree, rng)
+            for _ in range(3):
+                t.table(data)
+                t.numbers(stored(points, record, len(data) // 8))
+                t.check()
+                points = moved(tree, points, rng)
+
+
 def telling(t, rng):
     """For each slip of a drawing or a check, a dozen cases that tell it."""
     for kind, name, *changes in slips.SLIPS:
@@ -335,6 +349,7 @@ def main():
     random_checks(t, rng)
     telling(t, rng)
     random_trees(t, rng)
+    level_checks(t, rng)
     crate = os.path.join(os.path.dirname(here), 'crates', 'trials')
     with open(os.path.join(crate, 'stdin'), 'wb') as f:
         f.write(b''.join(t.cases))

@@ -18,7 +18,8 @@ use Rattle.layout.proofs.Spines.{spineTree}
 use Rattle.layout.proofs.Held.{inside-less}
 use Rattle.measure.specs.Prepared.{codeOf, Prepared, Along, no-spine, onward}
 use Rattle.drawing.specs.Answer.{store}
-use Rattle.drawing.specs.Placing.{isSwitch, point, kept, finish, finished, Ready}
+use Rattle.measure.specs.Roles.{isSwitch}
+use Rattle.drawing.specs.Placing.{point, kept, finish, finished, Ready}
 use Rattle.drawing.proofs.StoredOrder.{Apart, store-comm, store-join}
 use Rattle.drawing.proofs.Shapes.{Disjoint, hung-none, height-none, width-none, shape-hung, shape-lay}
 use Rattle.drawing.proofs.Columns.{over-edge, over-back}

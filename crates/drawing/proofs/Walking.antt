@@ -19,11 +19,11 @@ use Rattle.measure.specs.Sized.{Named}
 use Rattle.measure.specs.Forked.{sideOf, Forked}
 use Rattle.measure.specs.Prepared.{codeOf}
 use Rattle.measure.specs.declared.roles.Role.{Role as Coded}
-use Rattle.measure.specs.Roles.{handOf as sideOfCoded, roleOf}
+use Rattle.measure.specs.Roles.{handOf as sideOfCoded, roleOf, isSwitch}
 use Rattle.measure.proofs.Choices.{code-same, code-small}
 use Rattle.drawing.specs.Answer.{store}
 use Rattle.drawing.specs.declared.place.Walk.{Walk}
-use Rattle.drawing.specs.Placing.{isKnee, isSwitch, point, Given, Hanging, Hung, finished, Ready, walkTo, handOf, Going, Stepped}
+use Rattle.drawing.specs.Placing.{isKnee, point, Given, Hanging, Hung, finished, Ready, walkTo, handOf, Going, Stepped}
 use Rattle.drawing.proofs.Shapes.{Disjoint, count-node, tree-spine}
 use Rattle.drawing.proofs.Columns.{inside-edge, inside-count, side-not}
 use Rattle.drawing.proofs.Onward.{knee-far, knee-near, ordinary-on, switch-over, bottom-far, bottom-near, bottom-over, along-role, along-hung, at-knee-room, at-ordinary-room, at-switch-width, at-switch-room, ready-far, ready-near, ready-ordinary, ready-switch, rows-far, rows-knee, rows-ordinary, rows-switch}
@@ -55,11 +55,6 @@ pub knee-is : (o : Role) → isKnee o ≡ true → o ≡ knee
 knee-is knee e = refl
 knee-is ordinary e = cc
 knee-is switch e = cc
-
-pub switch-is : (o : Role) → isSwitch o ≡ true → o ≡ switch
-switch-is knee e = cc
-switch-is ordinary e = cc
-switch-is switch e = refl
 
 pub ordinary-is : (o : Role) → isKnee o ≡ false → isSwitch o ≡ false → o ≡ ordinary
 ordinary-is knee e f = cc

@@ -13,7 +13,7 @@ use Rattle.table.specs.Refusal.{fault, refusal}
 use Rattle.table.specs.declared.Reading.{Reading}
 use Rattle.table.specs.Reading.{Sized as Listed, ReadOf}
 use Rattle.table.proofs.Chain.{Chained}
-use Rattle.table.proofs.Accepted.{refusal-none, tree-none, records-bounds, chain-within, chain-length, root, size-chain}
+use Rattle.table.proofs.Accepted.{refusal-none, tree-none, records-bounds, chain-length, root, size-chain}
 use Rattle.layout.specs.Layout.{Layout, width, height}
 use Rattle.layout.specs.Drawing.{draw, drawing}
 use Rattle.layout.specs.Held.{facing, hungOn, heightOn, widthOn}
@@ -34,11 +34,9 @@ module _ (t : List ℕ) (ok : fault t ≡ 0) (k : ℕ) (e : k ≡ rootOf t) wher
   few-below : size (treeAt t k) ≤ 4096
   few-below = omega (arith, ap (λ (n : ℕ). size (treeAt t n)) e, size-chain t ok, few-nodes)
 
-  pub hanging-root : (roles gaps : List ℕ) → Chained t (rootOf t) → Prepared roles gaps left (treeAt t k) → Hanging t roles gaps left k 0 0 0 × (0 < k)
-  hanging-root roles gaps c p = (
-    record { named = inr (rw e c); prepared = p; columns = omega (arith, width-small left (treeAt t k) few-below); rows = omega (arith, height-size left (treeAt t k), few-below) },
-    omega (arith, chain-within t ok (rootOf t) c),
-  )
+  pub hanging-root : (roles gaps : List ℕ) → Chained t (rootOf t) → Prepared roles gaps left (treeAt t k) → Hanging t roles gaps left k 0 0 0
+  hanging-root roles gaps c p =
+      record { named = inr (rw e c); prepared = p; columns = omega (arith, width-small left (treeAt t k) few-below); rows = omega (arith, height-size left (treeAt t k), few-below) }
 
   -- Nodes, width and height are 16-bit numbers.
   pub small-plan : (p p′ : List ℕ) (n w h : ℕ) → n ≡ length (chain t) → w ≡ widthOn left (treeAt t k) → Hung t left k 0 0 p h p′ → (n ≤ 4096) × ((w ≤ 37) × (h ≤ 4096))

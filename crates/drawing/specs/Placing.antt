@@ -27,11 +27,6 @@ isKnee knee = true
 isKnee ordinary = false
 isKnee switch = false
 
-abbrev pub isSwitch : Role → Bool
-isSwitch knee = false
-isSwitch ordinary = false
-isSwitch switch = true
-
 -- The lists are those of an accepted table, and the placements are enough.
 pub record Given (t sizes roles gaps p : List ℕ) : Type 0 where
   pub sound : fault t ≡ 0

@@ -1,7 +1,7 @@
 // The drawer: Algorithm BT-Ordered-Draw over a table of records.
 mod place;
 
-use crate::place::draw_left;
+use crate::place::draw_tree;
 use measure::prepare;
 use table::read;
 use table::words::left;
@@ -39,20 +39,26 @@ pub struct Drawn {
     pub plan: Plan,
 }
 
-// The plan of an accepted table that has nodes.
-fn plan_of(table: &[u8], sizes: &[u16], placements: &mut [u16], nodes: usize) -> Plan
+// The plan of an accepted table that has nodes. A list is lent for the roles.
+fn plan_of(
+    table: &[u8],
+    sizes: &[u16],
+    roles: &mut [u16],
+    placements: &mut [u16],
+    nodes: usize,
+) -> Plan
     requires { ⌜ fault (now table) ≡ 0 ⌝ }
     requires { ⌜ T (member (rootOf (now table)) (chainOf (now table))) ⌝ }
     requires { ⌜ Sized (now table) (now sizes) ⌝ }
+    requires { ⌜ length (now roles) ≡ 4097 ⌝ }
     requires { ⌜ 2 * records (now table) ≤ length (now placements) ⌝ }
     requires { ⌜ nodes ≡ length (chainOf (now table)) ⌝ }
     ensures { λ r. ⌜ (r ≡ planOf (now (table .entry))) × (now (placements .exit) ≡ store (drawing (tree (now (table .entry)))) (now (placements .entry))) ⌝ }
 {
     let root = left(table, 0);
-    let mut roles = [0u16; 4097];
     let mut gaps = [0u16; 4097];
-    let width = prepare(table, sizes, &mut roles, &mut gaps, root);
-    let height = draw_left(table, sizes, &roles, &gaps, placements, root, 0, 0);
+    let width = prepare(table, sizes, roles, &mut gaps, root);
+    let height = draw_tree(table, sizes, roles, &gaps, placements, root);
     Plan {
         nodes: nodes as u16,
         width: width as u16,
@@ -79,6 +85,6 @@ pub fn draw(table: &[u8], placements: &mut [u16]) -> Drawn
             plan: Plan::EMPTY,
         };
     }
-    let plan = plan_of(table, &sizes, placements, reading.nodes);
+    let plan = plan_of(table, &sizes, &mut chain, placements, reading.nodes);
     Drawn { refusal: 0, plan }
 }

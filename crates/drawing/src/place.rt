@@ -2,6 +2,7 @@
 use measure::Fork;
 use measure::fork_at;
 use measure::roles::Role;
+use measure::roles::is_switch;
 use measure::roles::role_at;
 ghost use mathlib.Core.Path.{_≡_};
 ghost use Prim.Native.Nat.{_+_, _*_, _<_, max};
@@ -11,7 +12,7 @@ ghost use Rattle.layout.specs.Spine.{Role as LayoutRole, knee, ordinary, switch
 ghost use Rattle.layout.specs.Held.{inwards as inwardsOf, far, Inside};
 ghost use Rattle.measure.specs.Forked.{sideOf, Forked};
 ghost use Rattle.measure.specs.Roles.{roleOf};
-ghost use Rattle.drawing.specs.Placing.{isKnee, isSwitch, point, handOf, walkTo, Given, Hanging, Hung, Going, Stepped, remaining, rowBelow};
+ghost use Rattle.drawing.specs.Placing.{isKnee, point, handOf, walkTo, Given, Hanging, Hung, Going, Stepped};
 
 // A walk along the spine of a drawing: the next node and its row, the lowest row used so far, the pending child, 0 for none; the hand that the node
 // is on, and its edge; W of the spine, and whether its drawing is on the right side.
@@ -57,19 +58,6 @@ fn is_knee(role: Role) -> bool
         Role::RightKnee => true,
         Role::OrdinaryRight => false,
         Role::SwitchLeft => false,
-    }
-}
-
-fn is_switch(role: Role) -> bool
-    ensures { λ r. ⌜ r ≡ isSwitch (roleOf role) ⌝ }
-{
-    match role {
-        Role::LeftKnee => false,
-        Role::OrdinaryLeft => false,
-        Role::SwitchRight => true,
-        Role::RightKnee => false,
-        Role::OrdinaryRight => false,
-        Role::SwitchLeft => true,
     }
 }
 
@@ -211,24 +199,36 @@ fn draw_spine(
     roles: &[u16],
     gaps: &[u16],
     placements: &mut [u16],
-    start: Walk,
+    root: usize,
+    edge: usize,
+    top: usize,
+    mirrored: bool,
 ) -> usize
     requires { ⌜ Given (now table) (now sizes) (now roles) (now gaps) (now placements) ⌝ }
-    requires { ⌜ Going (now table) (now roles) (now gaps) knee start ⌝ }
-    requires { ⌜ 0 < start .at ⌝ }
-    requires { ⌜ start .pending ≡ 0 ⌝ }
-    ensures { λ r. ⌜ (r ≡ rowBelow (now (table .entry)) knee start) × (now (placements .exit) ≡ remaining (now (table .entry)) knee start (now (placements .entry))) ⌝ }
+    requires { ⌜ Hanging (now table) (now roles) (now gaps) (sideOf mirrored) root edge 0 top ⌝ }
+    requires { ⌜ 0 < root ⌝ }
+    ensures { λ r. ⌜ Hung (now (table .entry)) (sideOf mirrored) root edge top (now (placements .entry)) r (now (placements .exit)) ⌝ }
 {
-    let mut w = start;
+    let gap = gaps[root] as usize;
+    let mut w = Walk {
+        at: root,
+        row: top,
+        lowest: top,
+        pending: 0,
+        right: mirrored,
+        edge,
+        gap,
+        mirrored,
+    };
     while w.at != 0 {
         w = step(table, sizes, roles, gaps, placements, w);
     }
-    let top = w.lowest + 1;
-    draw_hung(table, sizes, roles, gaps, placements, w, w.pending, 1, top)
+    let row = w.lowest + 1;
+    draw_hung(table, sizes, roles, gaps, placements, w, w.pending, 1, row)
 }
 
 // A drawing on the left side, by these steps. Answers the first row below it.
-pub fn draw_left(
+fn draw_left(
     table: &[u8],
     sizes: &[u16],
     roles: &[u16],
@@ -243,18 +243,17 @@ pub fn draw_left(
     requires { ⌜ 0 < root ⌝ }
     ensures { λ r. ⌜ Hung (now (table .entry)) left root edge top (now (placements .entry)) r (now (placements .exit)) ⌝ }
 {
-    let gap = gaps[root] as usize;
-    let start = Walk {
-        at: root,
-        row: top,
-        lowest: top,
-        pending: 0,
-        right: false,
+    draw_spine(
+        table,
+        sizes,
+        roles,
+        gaps,
+        placements,
+        root,
         edge,
-        gap,
-        mirrored: false,
-    };
-    draw_spine(table, sizes, roles, gaps, placements, start)
+        top,
+        false,
+    )
 }
 
 // A drawing on the right side: the mirror image, flipped left to right.
@@ -273,18 +272,7 @@ fn draw_right(
     requires { ⌜ 0 < root ⌝ }
     ensures { λ r. ⌜ Hung (now (table .entry)) right root edge top (now (placements .entry)) r (now (placements .exit)) ⌝ }
 {
-    let gap = gaps[root] as usize;
-    let start = Walk {
-        at: root,
-        row: top,
-        lowest: top,
-        pending: 0,
-        right: true,
-        edge,
-        gap,
-        mirrored: true,
-    };
-    draw_spine(table, sizes, roles, gaps, placements, start)
+    draw_spine(table, sizes, roles, gaps, placements, root, edge, top, true)
 }
 
 // A subtree, 0 for none, on the side of the walk's hand: its edge is at that hand's column, its top at the row. Answers the first row below it.
@@ -312,4 +300,30 @@ fn draw_hung(
     } else {
         draw_left(table, sizes, roles, gaps, placements, child, edge, top)
     }
+}
+
+// The drawing of the whole tree: on the left side, from column 0 and row 0 on. Answers its height.
+pub fn draw_tree(
+    table: &[u8],
+    sizes: &[u16],
+    roles: &[u16],
+    gaps: &[u16],
+    placements: &mut [u16],
+    root: usize,
+) -> usize
+    requires { ⌜ Given (now table) (now sizes) (now roles) (now gaps) (now placements) ⌝ }
+    requires { ⌜ Hanging (now table) (now roles) (now gaps) left root 0 0 0 ⌝ }
+    ensures { λ r. ⌜ Hung (now (table .entry)) left root 0 0 (now (placements .entry)) r (now (placements .exit)) ⌝ }
+{
+    let w = Walk {
+        at: 0,
+        row: 0,
+        lowest: 0,
+        pending: 0,
+        right: false,
+        edge: 0,
+        gap: 0,
+        mirrored: false,
+    };
+    draw_hung(table, sizes, roles, gaps, placements, w, root, 0, 0)
 }

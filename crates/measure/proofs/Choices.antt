@@ -1,19 +1,18 @@
 -- The roles that the program chooses are those of step 2, and their numbers tell them apart.
-use mathlib.Core.Bool.{true, false}
-use mathlib.Core.Path.{_≡_, refl, sym, ap, subst, _∙_}
+use mathlib.Core.Bool.{Bool, true, false, not}
+use mathlib.Core.Path.{_≡_, refl, sym, ap, _∙_}
 use mathlib.Core.Logic.{_⊎_, inl, inr}
 use Prim.Native.Nat.{ℕ, _%_, _<_}
 use lib.Dec.{leb, eqb, lit<}
 use Rattle.table.specs.Table.{Side, left, right}
 use Rattle.table.specs.Tree.{Tree, none, node}
 use Rattle.layout.specs.Layout.{mirror}
-use Rattle.layout.specs.Spine.{hangs, Role as LayoutRole, knee, ordinary, switch, opposite, seen, runRole, roleAfter, handAfter}
+use Rattle.layout.specs.Spine.{SpineNode, hangs, Role as LayoutRole, knee, ordinary, switch, opposite, seen, runRole, roleAfter, handAfter}
 use Rattle.measure.specs.declared.Fork.{Fork}
 use Rattle.measure.specs.declared.roles.Role.{Role}
-use Rattle.measure.specs.declared.roles.Role.the-variants.{LeftKnee, OrdinaryLeft, SwitchRight, RightKnee, OrdinaryRight, SwitchLeft}
 use Rattle.measure.specs.Forked.{sideOf}
 use Rattle.measure.specs.Prepared.{codeOf}
-use Rattle.measure.specs.Roles.{handOf, roleOf, Stands, nodeOf, Runs, Follows}
+use Rattle.measure.specs.Roles.{handOf, roleOf, isSwitch, nodeOf, Runs, Follows}
 
 -- Step 2 in a run: a switch exactly where something hangs on the hand's own side.
 run-bare : (a h : Side) (k : ℕ) (S : Tree) → S ≡ none → runRole (seen a (hangs k h S)) ≡ ordinary
@@ -41,29 +40,39 @@ ordinary-runs a f r h o (inr e) = record { hand = h; role = λ k S st. o ∙ sym
 pub switch-runs : (a : Side) (f : Fork) (r : Role) → handOf r ≡ a → roleOf r ≡ switch → (f .hung ≡ 0 → ⊥) → sideOf (f .«hung_right») ≡ a → Runs a f r
 switch-runs a f r h o n e = record { hand = h; role = λ k S st. o ∙ sym (rw e (run-near a k S (λ i. n (st .1 i)))) }
 
--- What the program's next role is, by the role before.
-abbrev pub Next : Role → Fork → Role → Type 0
-Next LeftKnee f r = Runs left f r
-Next OrdinaryLeft f r = Runs left f r
-Next SwitchRight f r = r ≡ RightKnee
-Next RightKnee f r = Runs right f r
-Next OrdinaryRight f r = Runs right f r
-Next SwitchLeft f r = r ≡ LeftKnee
+-- The role after a switch, and after any other role.
+pub switch-is : (o : LayoutRole) → isSwitch o ≡ true → o ≡ switch
+switch-is knee e = cc
+switch-is ordinary e = cc
+switch-is switch e = refl
 
-pub follows : (v b : Role) (f : Fork) (r : Role) → b ≡ v → Next v f r → Follows b f r
-unfolding roleAfter handAfter opposite
-follows v b f r e n = subst (λ (w : Role). Follows w f r) (sym e) (go v n)
+over : (b : Bool) (a : Side) → sideOf b ≡ a → sideOf (not b) ≡ opposite a
+unfolding opposite
+over true a e = rw (← e)
+over false a e = rw (← e)
+
+pub follows-switch : (b : Role) (f : Fork) (r : Role) (d : Bool) → isSwitch (roleOf b) ≡ true → sideOf d ≡ handOf b → (handOf r ≡ sideOf (not d)) × (roleOf r ≡ knee) → Follows b f r
+unfolding roleAfter handAfter
+follows-switch b f r d s e h =
+    let i = switch-is (roleOf b) s in
+    record {
+      hand = h .0 ∙ over d (handOf b) e ∙ sym (ap (λ (o : LayoutRole). handAfter o (handOf b)) i);
+      role = λ k S st. h .1 ∙ sym (ap (λ (o : LayoutRole). roleAfter o (seen (handOf r) (nodeOf f k S))) i);
+    }
+
+pub follows-run : (b : Role) (f : Fork) (r : Role) (a : Side) → isSwitch (roleOf b) ≡ false → a ≡ handOf b → Runs a f r → Follows b f r
+unfolding roleAfter handAfter
+follows-run b f r a s e n = record { hand = n .hand ∙ e ∙ sym (hand (roleOf b) s); role = λ k S st. rw (n .hand) (n .role k S st) ∙ sym (role (roleOf b) s _) }
   where
-    run : (a : Side) → Runs a f r → (k : ℕ) (S : Tree) → Stands f S → roleOf r ≡ runRole (seen (handOf r) (nodeOf f k S))
-    run a s k S st = rw (s .hand) (s .role k S st)
+    hand : (o : LayoutRole) → isSwitch o ≡ false → handAfter o (handOf b) ≡ handOf b
+    hand knee s = refl
+    hand ordinary s = refl
+    hand switch s = cc
 
-    go : (v : Role) → Next v f r → Follows v f r
-    go LeftKnee s = record { hand = s .hand; role = run left s }
-    go OrdinaryLeft s = record { hand = s .hand; role = run left s }
-    go SwitchRight s = record { hand = ap handOf s; role = λ k S st. ap roleOf s }
-    go RightKnee s = record { hand = s .hand; role = run right s }
-    go OrdinaryRight s = record { hand = s .hand; role = run right s }
-    go SwitchLeft s = record { hand = ap handOf s; role = λ k S st. ap roleOf s }
+    role : (o : LayoutRole) → isSwitch o ≡ false → (l : SpineNode) → roleAfter o l ≡ runRole l
+    role knee s l = refl
+    role ordinary s l = refl
+    role switch s l = cc
 
 -- The numbers of the roles.
 handFrom : ℕ → Side

@@ -1,5 +1,6 @@
 -- The six roles as the program has them, and how it chooses them along a spine.
 use mathlib.Core.Path.{_≡_}
+use mathlib.Core.Bool.{Bool, true, false}
 use mathlib.Core.Logic.{_↔_}
 use mathlib.Core.List.{List, [], _∷_}
 use Prim.Native.Nat.{ℕ}
@@ -29,6 +30,11 @@ roleOf SwitchRight = switch
 roleOf RightKnee = knee
 roleOf OrdinaryRight = ordinary
 roleOf SwitchLeft = switch
+
+abbrev pub isSwitch : LayoutRole → Bool
+isSwitch knee = false
+isSwitch ordinary = false
+isSwitch switch = true
 
 -- The hung record of a fork stands for the tree S; the spine node of the fork, at the record k.
 abbrev pub Stands : Fork → Tree → Type 0

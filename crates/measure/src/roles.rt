@@ -9,13 +9,13 @@ ghost use Rattle.table.specs.Lists.{member};
 ghost use Rattle.table.specs.Table.{left, right, chain};
 ghost use Rattle.table.specs.Tree.{treeAt};
 ghost use Rattle.table.specs.Refusal.{fault};
-ghost use Rattle.layout.specs.Spine.{opposite, switch};
+ghost use Rattle.layout.specs.Spine.{opposite, knee, switch};
 ghost use Rattle.layout.specs.Held.{spineOn};
 ghost use Rattle.layout.specs.Width.{edge};
 ghost use Rattle.measure.specs.Sized.{Sized};
 ghost use Rattle.measure.specs.Forked.{sideOf};
 ghost use Rattle.measure.specs.Prepared.{codeOf};
-ghost use Rattle.measure.specs.Roles.{handOf, roleOf, Runs, Follows, withRoles};
+ghost use Rattle.measure.specs.Roles.{handOf, roleOf, isSwitch, Runs, Follows, withRoles};
 
 // Document 01's six roles; specs/Roles gives the hand of each, and what it is on that hand.
 pub enum Role {
@@ -53,18 +53,54 @@ fn right_run(fork: Fork) -> Role
     Role::OrdinaryRight
 }
 
+// After a switch of the other hand.
+fn knee_on(right: bool) -> Role
+    ensures { λ r. ⌜ (handOf r ≡ sideOf right) × (roleOf r ≡ knee) ⌝ }
+{
+    if right {
+        return Role::RightKnee;
+    }
+    Role::LeftKnee
+}
+
+// Whether a role is one of the right hand's.
+pub fn is_right(role: Role) -> bool
+    ensures { λ r. ⌜ sideOf r ≡ handOf role ⌝ }
+{
+    match role {
+        Role::LeftKnee => false,
+        Role::OrdinaryLeft => false,
+        Role::SwitchRight => false,
+        Role::RightKnee => true,
+        Role::OrdinaryRight => true,
+        Role::SwitchLeft => true,
+    }
+}
+
+pub fn is_switch(role: Role) -> bool
+    ensures { λ r. ⌜ r ≡ isSwitch (roleOf role) ⌝ }
+{
+    match role {
+        Role::LeftKnee => false,
+        Role::OrdinaryLeft => false,
+        Role::SwitchRight => true,
+        Role::RightKnee => false,
+        Role::OrdinaryRight => false,
+        Role::SwitchLeft => true,
+    }
+}
+
 // Step 2: the role of a spine node after a node of role `before`.
 fn role_after(before: Role, fork: Fork) -> Role
     ensures { λ r. ⌜ Follows before fork r ⌝ }
 {
-    match before {
-        Role::LeftKnee => left_run(fork),
-        Role::OrdinaryLeft => left_run(fork),
-        Role::SwitchRight => Role::RightKnee,
-        Role::RightKnee => right_run(fork),
-        Role::OrdinaryRight => right_run(fork),
-        Role::SwitchLeft => Role::LeftKnee,
+    if is_switch(before) {
+        return knee_on(!is_right(before));
     }
+    if is_right(before) {
+        return right_run(fork);
+    }
+    left_run(fork)
 }
 
 // The number by which a role is kept.
@@ -95,20 +131,6 @@ pub fn role_at(roles: &[u16], at: usize) -> Role
         3 => Role::RightKnee,
         4 => Role::OrdinaryRight,
         _ => Role::SwitchLeft,
-    }
-}
-
-// Whether a role is one of the right hand's.
-pub fn is_right(role: Role) -> bool
-    ensures { λ r. ⌜ sideOf r ≡ handOf role ⌝ }
-{
-    match role {
-        Role::LeftKnee => false,
-        Role::OrdinaryLeft => false,
-        Role::SwitchRight => false,
-        Role::RightKnee => true,
-        Role::OrdinaryRight => true,
-        Role::SwitchLeft => true,
     }
 }
 

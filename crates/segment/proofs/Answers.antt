@@ -18,6 +18,12 @@ holds e h = h .0 (subst T (sym e) tt)
 pub fails : {b : Bool} {A : Type 0} → b ≡ false → T b ↔ A → A → ⊥
 fails e h a = subst T e (h .1 a)
 
+pub found : {A : Type 0} → A → T true ↔ A
+found a = (λ z. a, λ z. tt)
+
+pub none : {A : Type 0} → (A → ⊥) → T false ↔ A
+none h = (λ z. absurd z, λ a. h a)
+
 pub answer : (b : Bool) {b′ : Bool} {A : Type 0} → b ≡ b′ → Decides b′ A → T b ↔ A
 answer b {A = A} e d = subst (λ (t : Bool). T t ↔ A) (sym e) (d .is)
 

@@ -1,29 +1,30 @@
--- Two segments clash exactly where the test `clashes` says so. With a common end they do where the other end of one lies on the other; with none, where they share a point.
-use mathlib.Core.Path.{_≡_, refl, ap, ap₂, sym, subst, _∙_}
-use mathlib.Core.Logic.{_↔_, _≢_, _⊎_, inl, inr, ⊎-elim, ⊎-map, ⊎-swap, Ne·symm, Iff·trans}
-use mathlib.Core.Bool.{Bool, true, cond, _&&_, _||_}
+-- Two segments clash exactly where the test `clashes` says so. With a common end they do where each has another end and one of those lies on the other segment; with none, where they share a point. Rests on SharedPoint.
+use mathlib.Core.Path.{_≡_, refl, ap, ap₂, sym, subst, subst₂, _∙_}
+use mathlib.Core.Logic.{_↔_, _≢_, _⊎_, inl, inr, ⊎-elim, ⊎-map, ⊎-swap, Iff·trans}
+use mathlib.Core.Bool.{Bool, not, cond, _&&_, _||_}
 use Prim.Native.Nat.{ℕ, _+_, _*_, _≤_, _<_, max, min}
 use native.Mathlib.Nat.{le-dest, eq-of-mul-eq-mul-left}
 use native.Mathlib.Decide.{decLe, decLt}
 use native.Mathlib.Omega.{arith}
 use lib.Dec.{T, eqb}
+use lib.IntN.{pos}
 use Rattle.segment.specs.declared.Point.{Point}
-use Rattle.segment.specs.Segment.{at, Share, Is, Lies, Clash}
-use Rattle.segment.proofs.Decides.{Decides, eq-decides, and-decides, or-decides, cond-decides, guard-decides, same-meaning}
-use Rattle.segment.proofs.CrossProduct.{Weights, weights, on, on-turn}
+use Rattle.segment.specs.Segment.{at, On, cross, Share, Is, Lies, Clash}
+use Rattle.segment.proofs.Decides.{Decides, eq-decides, not-decides, and-decides, or-decides, cond-decides, same-meaning}
+use Rattle.segment.proofs.Difference.{diff-zero}
+use Rattle.segment.proofs.CrossProduct.{plus, minus, cross-diff, Weights, weights, on, on-turn}
 use Rattle.segment.proofs.SharedPoint.{meets, at-start, meets-decides-share, lies-decides, rows-apart}
 
 unfoldable pub same : Point → Point → Bool
 same P Q = eqb (P .column) (Q .column) && eqb (P .row) (Q .row)
 
--- the segments from P to A and from P to B share more than P
+-- the segments from P to A and from P to B share more than P (the code asks first whether the three points are in line)
 unfoldable pub along : Point → Point → Point → Bool
-along P A B = meets P B A A || meets P A B B
+along P A B = not (same P A) && (not (same P B) && (meets P B A A || meets P A B B))
 
 -- the test of clashes
 unfoldable pub clashes : Point → Point → Point → Point → Bool
-clashes P Q R S = meets P Q R S &&
-    cond (same P R) (along P Q S) (cond (same P S) (along P Q R) (cond (same Q R) (along Q P S) (cond (same Q S) (along Q P R) true)))
+clashes P Q R S = cond (same P R) (along P Q S) (cond (same P S) (along P Q R) (cond (same Q R) (along Q P S) (cond (same Q S) (along Q P R) (meets P Q R S))))
 
 pub point : {P Q : Point} → P .column ≡ Q .column → P .row ≡ Q .row → P ≡ Q
 point c r = ap₂ at c r
@@ -95,11 +96,25 @@ nearer {P} {A} {B} a b h one = go (le-dest h)
       });
     }
 
-at-end : {P B : Point} {q x y : ℕ} (b : Weights P B q x y) → b .v ≡ 0 → Is P q x y
+pub at-end : {P B : Point} {q x y : ℕ} (b : Weights P B q x y) → b .v ≡ 0 → Is P q x y
 at-end {P} {B} {q} b e = let f : b .u ≡ q = omega arith in record {
   in-column = omega (arith, ap (λ (n : ℕ). n * P .column) f, ap (λ (n : ℕ). n * B .column) e);
   in-row = omega (arith, ap (λ (n : ℕ). n * P .row) f, ap (λ (n : ℕ). n * B .row) e);
 }
+
+-- a point of a segment of one point
+pub at-point : {P Q : Point} {q x y : ℕ} (a : Weights P Q q x y) → Q ≡ P → Is P q x y
+at-point {P} {Q} a e = record {
+  in-column = omega (arith, ap (λ (n : ℕ). n * P .column) (a .sum), ap (λ (X : Point). a .v * X .column) e);
+  in-row = omega (arith, ap (λ (n : ℕ). n * P .row) (a .sum), ap (λ (X : Point). a .v * X .row) e);
+}
+
+-- a segment of one point clashes with a segment that it lies on and does not end
+pub point-lies : {B P Q : Point} → Clash B B P Q → Lies B P Q
+point-lies {P = P} {Q} c = let i = at-point (weights (c .on-PQ)) refl in record { q = c .q; q≥1 = c .q≥1; on = subst₂ (λ (x y : ℕ). On P Q (c .q) x y) (i .in-column) (i .in-row) (c .on-RS) }
+
+pub point-ends : {B P Q : Point} → Clash B B P Q → (B ≡ P) ⊎ (B ≡ Q) → ⊥
+point-ends {B} c e = c .no-common-end B (inl refl) e (at-point (weights (c .on-PQ)) refl)
 
 clash→lies : {P A B : Point} → Clash P A P B → Lies A P B ⊎ Lies B P A
 clash→lies {P} {A} {B} h = go (weights (h .on-PQ)) (weights (h .on-RS)) (decLe _ _) (decLt 0 _)
@@ -108,6 +123,30 @@ clash→lies {P} {A} {B} h = go (weights (h .on-PQ)) (weights (h .on-RS)) (decLe
     go a b (yes l) (yes one) = inr (nearer a b l one)
     go a b (yes l) (no z) = absurd (h .no-common-end P (inl refl) (inl refl) (at-end b (omega arith)))
     go a b (no l) z = inl (nearer b a (omega arith) (omega arith))
+
+pub common-end : {P A B : Point} → ((P ≢ A) × ((P ≢ B) × (Lies A P B ⊎ Lies B P A))) ↔ Clash P A P B
+common-end {P} = (
+  λ z. ⊎-elim (lies→clash (z .0)) (λ l. clash-exchange (lies→clash (z .1 .0) l)) (z .1 .1),
+  λ h. (
+    λ e. h .no-common-end P (inl refl) (inl refl) (at-point (weights (h .on-PQ)) (sym e)),
+    (λ e. h .no-common-end P (inl refl) (inl refl) (at-point (weights (h .on-RS)) (sym e)), clash→lies h),
+  ),
+)
+
+-- and only where all three points are in line
+lies→in-line : {P A B : Point} → Lies A P B → plus P A B ≡ minus P A B
+lies→in-line {P} {A} {B} l = let w = weights (l .on) in eq-of-mul-eq-mul-left (l .q) (l .q≥1) _ _ (omega (
+  arith,
+  ap (λ (n : ℕ). n * (B .column * P .row)) (w .sum),
+  ap (λ (n : ℕ). n * (B .row * P .column)) (w .sum),
+  ap (λ (n : ℕ). n * B .row) (w .in-column),
+  ap (λ (n : ℕ). n * P .row) (w .in-column),
+  ap (λ (n : ℕ). n * P .column) (w .in-row),
+  ap (λ (n : ℕ). n * B .column) (w .in-row),
+))
+
+pub clash→in-line : {P A B : Point} → Clash P A P B → cross P A B ≡ pos 0
+clash→in-line {P} {A} {B} h = diff-zero _ (cross-diff P A B) (⊎-elim lies→in-line (λ l. omega (arith, lies→in-line l)) (clash→lies h))
 
 -- ---- a node B on a line that it does not end, and a line from B
 pub on-line→clash : {B C P Q : Point} → B ≢ P → B ≢ Q → Lies B P Q → Clash P Q B C
@@ -125,18 +164,17 @@ on-line→clash {B} {C} n m l = record {
 -- ---- the theorem
 
 -- with a common end, by which two ends are the same
-pub common-PR : {P Q R S : Point} → P ≢ Q → R ≢ S → P ≡ R → (Lies Q P S ⊎ Lies S P Q) ↔ Clash P Q R S
-common-PR {P} {Q} {R} {S} n m e = subst (λ (X : Point). (Lies Q P S ⊎ Lies S P Q) ↔ Clash P Q X S) e
-    (⊎-elim (lies→clash n) (λ l. clash-exchange (lies→clash (λ k. m (sym e ∙ k)) l)), clash→lies)
+pub common-PR : {P Q R S : Point} → P ≡ R → Clash P Q P S ↔ Clash P Q R S
+common-PR {P} {Q} {R} {S} e = subst (λ (X : Point). Clash P Q P S ↔ Clash P Q X S) e (λ h. h, λ h. h)
 
-pub common-PS : {P Q R S : Point} → P ≢ Q → R ≢ S → P ≡ S → (Lies Q P R ⊎ Lies R P Q) ↔ Clash P Q R S
-common-PS n m e = Iff·trans (common-PR n (Ne·symm m) e) (clash-turn, clash-turn)
+pub common-PS : {P Q R S : Point} → P ≡ S → Clash P Q P R ↔ Clash P Q R S
+common-PS e = Iff·trans (common-PR e) (clash-turn, clash-turn)
 
-pub common-QR : {P Q R S : Point} → P ≢ Q → R ≢ S → Q ≡ R → (Lies P Q S ⊎ Lies S Q P) ↔ Clash P Q R S
-common-QR n m e = Iff·trans (common-PR (Ne·symm n) m e) (clash-turn-first, clash-turn-first)
+pub common-QR : {P Q R S : Point} → Q ≡ R → Clash Q P Q S ↔ Clash P Q R S
+common-QR e = Iff·trans (common-PR e) (clash-turn-first, clash-turn-first)
 
-pub common-QS : {P Q R S : Point} → P ≢ Q → R ≢ S → Q ≡ S → (Lies P Q R ⊎ Lies R Q P) ↔ Clash P Q R S
-common-QS n m e = Iff·trans (common-PS (Ne·symm n) m e) (clash-turn-first, clash-turn-first)
+pub common-QS : {P Q R S : Point} → Q ≡ S → Clash Q P Q R ↔ Clash P Q R S
+common-QS e = Iff·trans (common-PS e) (clash-turn-first, clash-turn-first)
 
 -- and with none
 pub no-common : {P Q R S : Point} → P ≢ R → P ≢ S → Q ≢ R → Q ≢ S → Share P Q R S → Clash P Q R S
@@ -150,15 +188,16 @@ no-common n₁ n₂ n₃ n₄ h = record {
   no-common-end = λ E a b i. ⊎-elim (λ p. ⊎-elim (λ r. n₁ (sym p ∙ r)) (λ s. n₂ (sym p ∙ s)) b) (λ p. ⊎-elim (λ r. n₃ (sym p ∙ r)) (λ s. n₄ (sym p ∙ s)) b) a;
 }
 
-along-decides : (P A B : Point) → Decides (along P A B) (Lies A P B ⊎ Lies B P A)
+along-decides : (P A B : Point) → Decides (along P A B) (Clash P A P B)
 unfolding along
-along-decides P A B = or-decides (lies-decides A P B) (lies-decides B P A)
+along-decides P A B = same-meaning common-end
+    (and-decides (not-decides (same-decides P A)) (and-decides (not-decides (same-decides P B)) (or-decides (lies-decides A P B) (lies-decides B P A))))
 
-pub clashes↔clash : (P Q R S : Point) → P ≢ Q → R ≢ S → T (clashes P Q R S) ↔ Clash P Q R S
+pub clashes↔clash : (P Q R S : Point) → T (clashes P Q R S) ↔ Clash P Q R S
 unfolding clashes
-clashes↔clash P Q R S n m = guard-decides (meets-decides-share P Q R S) clash→share (λ h.
-    cond-decides (same-decides P R) (λ e. same-meaning (common-PR n m e) (along-decides P Q S)) (λ n₁.
-    cond-decides (same-decides P S) (λ e. same-meaning (common-PS n m e) (along-decides P Q R)) (λ n₂.
-    cond-decides (same-decides Q R) (λ e. same-meaning (common-QR n m e) (along-decides Q P S)) (λ n₃.
-    cond-decides (same-decides Q S) (λ e. same-meaning (common-QS n m e) (along-decides Q P R)) (λ n₄.
-    record { is = (λ t. no-common n₁ n₂ n₃ n₄ h, λ c. tt) }))))) .is
+clashes↔clash P Q R S =
+    cond-decides (same-decides P R) (λ e. same-meaning (common-PR e) (along-decides P Q S)) (λ n₁.
+    cond-decides (same-decides P S) (λ e. same-meaning (common-PS e) (along-decides P Q R)) (λ n₂.
+    cond-decides (same-decides Q R) (λ e. same-meaning (common-QR e) (along-decides Q P S)) (λ n₃.
+    cond-decides (same-decides Q S) (λ e. same-meaning (common-QS e) (along-decides Q P R)) (λ n₄.
+    same-meaning (no-common n₁ n₂ n₃ n₄, clash→share) (meets-decides-share P Q R S))))) .is

@@ -3,7 +3,7 @@ use mathlib.Core.Path.{_≡_, subst}
 use mathlib.Core.Bool.{Bool, true, false, not, cond, _&&_, _||_}
 use mathlib.Core.Logic.{_↔_, _⊎_, inl, inr, ⊎-elim, Iff·trans, Iff·and}
 use Prim.Native.Nat.{ℕ, _≤_}
-use lib.Dec.{T, T-not, leb, eqb, leb→le, le→leb, eqb→eq, eqb-refl}
+use lib.Dec.{T, T-not, not-T, leb, eqb, leb→le, le→leb, eqb→eq, eqb-refl}
 
 -- A record, so that b and A are inferred
 pub record Decides (b : Bool) (A : Type 0) : Type 0 where
@@ -14,6 +14,9 @@ le-decides m n = record { is = (leb→le m n, le→leb m n) }
 
 pub eq-decides : (m n : ℕ) → Decides (eqb m n) (m ≡ n)
 eq-decides m n = record { is = (eqb→eq m n, λ e. subst (λ (k : ℕ). T (eqb m k)) e (eqb-refl m)) }
+
+pub not-decides : {b : Bool} {A : Type 0} → Decides b A → Decides (not b) (A → ⊥)
+not-decides {b} d = record { is = (λ h a. T-not b h (d .is .1 a), λ n. not-T b (λ h. n (d .is .0 h))) }
 
 T-and : (a b : Bool) → T (a && b) ↔ (T a × T b)
 T-and true b = (λ t. (tt, t), λ t. t .1)

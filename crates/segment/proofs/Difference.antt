@@ -54,6 +54,10 @@ diff-mul (pos n) (negsuc m) {c = c} {d = d} h k = diff-neg (pos (n * suc m)) (om
 diff-mul (negsuc n) (pos m) {c = c} {d = d} h k = diff-neg (pos (suc n * m)) (omega (arith, ap (λ (i : ℕ). i * c) (h .is), ap (λ (i : ℕ). i * d) (h .is), ap (λ (i : ℕ). i * suc n) (k .is)))
 diff-mul (negsuc n) (negsuc m) {c = c} {d = d} h k = omega (arith, ap (λ (i : ℕ). i * c) (h .is), ap (λ (i : ℕ). i * d) (h .is), ap (λ (i : ℕ). i * suc n) (k .is))
 
+pub diff-zero : (z : ℤ) {a b : ℕ} → Diff z a b → a ≡ b → z ≡ pos 0
+diff-zero (pos n) h e = ap pos (omega arith)
+diff-zero (negsuc n) h e = absurd (omega arith)
+
 -- the signs
 pub diff-nonneg : (z : ℤ) {a b : ℕ} → Diff z a b → Decides (leZ (pos 0) z) (b ≤ a)
 diff-nonneg (pos n) h = record { is = (λ t. omega arith, λ l. le→leb 0 n (omega arith)) }

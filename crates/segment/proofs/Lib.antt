@@ -5,4 +5,5 @@ pub mod CrossProduct
 pub mod Range
 pub mod SharedPoint
 pub mod Clashing
+pub mod Apart
 pub mod Answers

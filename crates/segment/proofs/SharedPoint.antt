@@ -9,7 +9,7 @@ use native.Mathlib.Omega.{arith}
 use lib.Dec.{T}
 use Rattle.segment.specs.declared.Point.{Point}
 use Rattle.segment.specs.Segment.{On, Share, Lies}
-use Rattle.segment.specs.Test.{overlap, spans, astride}
+use Rattle.segment.specs.Test.{overlap, spans, astride, flip}
 use Rattle.segment.proofs.Decides.{Decides, le-decides, and-decides, or-decides, same-meaning}
 use Rattle.segment.proofs.Difference.{diff-nonneg, diff-nonpos}
 use Rattle.segment.proofs.CrossProduct.{plus, minus, cross-diff, weights, on, on-turn, linear, cramer-column, cramer-row}
@@ -53,11 +53,7 @@ pub share-turn : {P Q R S : Point} → Share P Q R S → Share P Q S R
 share-turn h = record { q = h .q; x = h .x; y = h .y; q≥1 = h .q≥1; on-PQ = h .on-PQ; on-RS = on-turn (h .on-RS) }
 
 -- rows for columns
-flip : Point → Point
-flip P = record { column = P .row; row = P .column }
-
-on-flip : (A B : Point) {q x y : ℕ} → On (flip A) (flip B) q x y → On A B q y x
-unfolding flip
+pub on-flip : (A B : Point) {q x y : ℕ} → On (flip A) (flip B) q x y → On A B q y x
 on-flip A B o = record { s = o .s; s≤q = o .s≤q; at-column = o .at-row; at-row = o .at-column }
 
 share-flip : (P Q R S : Point) → Share (flip P) (flip Q) (flip R) (flip S) → Share P Q R S
@@ -190,7 +186,6 @@ wide-line P Q R S l = go (decLe (min (P .column) (Q .column)) (min (R .column) (
 -- by columns, else by rows; else all four are one point
 in-line : (P Q R S : Point) → plus P Q R ≡ minus P Q R → plus P Q S ≡ minus P Q S → plus R S P ≡ minus R S P → plus R S Q ≡ minus R S Q →
     Overlap (P .row) (Q .row) (R .row) (S .row) → Overlap (P .column) (Q .column) (R .column) (S .column) → Share P Q R S
-unfolding flip
 in-line P Q R S z₁ z₂ z₃ z₄ n o = go (decLt _ _) (decLt _ _)
   where
     go : Dec (min (P .column) (Q .column) + min (R .column) (S .column) < max (P .column) (Q .column) + max (R .column) (S .column)) →

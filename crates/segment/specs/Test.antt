@@ -1,11 +1,11 @@
--- Tests that the code makes: proved to agree with the meaning in Segment.antt (proofs/SharedPoint.antt), and not to be believed.
+-- Tests that the code makes, proved to agree with the meaning in Segment.antt (proofs/SharedPoint.antt), and points flipped and numbered. Not to be believed.
 use mathlib.Core.Bool.{Bool, _&&_, _||_}
-use Prim.Native.Nat.{ℕ, min, max}
+use Prim.Native.Nat.{ℕ, _+_, _*_, min, max}
 use lib.Dec.{leb}
 use lib.IntN.{ℤ, pos}
 use lib.Signed.{leZ}
 use Rattle.segment.specs.declared.Point.{Point}
-use Rattle.segment.specs.Segment.{cross}
+use Rattle.segment.specs.Segment.{at, cross}
 
 -- the intervals from a to b and from x to y have a number in common
 unfoldable pub overlap : ℕ → ℕ → ℕ → ℕ → Bool
@@ -18,3 +18,11 @@ spans d e = leZ d (pos 0) && leZ (pos 0) e
 -- X and Y are not both strictly on one side of the line through A and B
 unfoldable pub astride : Point → Point → Point → Point → Bool
 astride A B X Y = spans (cross A B X) (cross A B Y) || spans (cross A B Y) (cross A B X)
+
+-- a point with column and row exchanged
+abbrev pub flip : Point → Point
+flip P = at (P .row) (P .column)
+
+-- the number of a point, counted row by row on a grid of b columns
+abbrev pub number : ℕ → Point → ℕ
+number b P = b * P .row + P .column

@@ -1,6 +1,6 @@
 // Line segments between grid points: cross products, shared points, clashes of two segments.
 ghost use mathlib.Core.Path.{_≡_};
-ghost use mathlib.Core.Logic.{_↔_, _≢_, _⊎_};
+ghost use mathlib.Core.Logic.{_↔_};
 ghost use Prim.Native.Nat.{min, max};
 ghost use lib.Dec.{T};
 ghost use lib.IntN.{pos, _-ℤ_};
@@ -28,13 +28,13 @@ pub fn cross(p: Point, a: Point, b: Point) -> i64
         - minus(a.row, p.row) * minus(b.column, p.column)
 }
 
-fn least(a: u16, b: u16) -> u16
+pub fn least(a: u16, b: u16) -> u16
     ensures { λ r. ⌜ r ≡ min a b ⌝ }
 {
     if a < b { a } else { b }
 }
 
-fn most(a: u16, b: u16) -> u16
+pub fn most(a: u16, b: u16) -> u16
     ensures { λ r. ⌜ r ≡ max a b ⌝ }
 {
     if a < b { b } else { a }
@@ -89,21 +89,26 @@ fn same(p: Point, q: Point) -> bool
     p.column == q.column && p.row == q.row
 }
 
-// Does a lie on the segment from p to b, or b on the segment from p to a?
+// Do the segments from p to a and from p to b share more than p?
 fn along(p: Point, a: Point, b: Point) -> bool
-    ensures { λ z. ⌜ T z ↔ (Meaning.Lies a p b ⊎ Meaning.Lies b p a) ⌝ }
+    ensures { λ z. ⌜ T z ↔ Meaning.Clash p a p b ⌝ }
 {
+    if cross(p, a, b) != 0 {
+        return false;
+    }
+    if same(p, a) {
+        return false;
+    }
+    if same(p, b) {
+        return false;
+    }
     lies(a, p, b) || lies(b, p, a)
 }
 
 // Do the segments from p to q and from r to s share a point other than one that both end at?
 pub fn clash(p: Point, q: Point, r: Point, s: Point) -> bool
-    requires { ⌜ (p ≢ q) × (r ≢ s) ⌝ }
     ensures { λ z. ⌜ T z ↔ Meaning.Clash p q r s ⌝ }
 {
-    if !meets(p, q, r, s) {
-        return false;
-    }
     if same(p, r) {
         return along(p, q, s);
     }
@@ -116,5 +121,5 @@ pub fn clash(p: Point, q: Point, r: Point, s: Point) -> bool
     if same(q, s) {
         return along(q, p, r);
     }
-    true
+    meets(p, q, r, s)
 }

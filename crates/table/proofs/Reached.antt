@@ -2,18 +2,19 @@
 -- is reached. Rests on Lists, Chain, Causes, Scan and Order.
 use mathlib.Core.Path.{_≡_, refl, sym, ap, _∙_, subst}
 use mathlib.Core.Logic.{inl, inr}
-use mathlib.Core.Bool.{Bool, true, false, not}
+use mathlib.Core.Bool.{Bool, true, false, not, false≢true}
 use mathlib.Core.List.{List, _∷_, _++_}
 use Prim.Native.Nat.{ℕ, zero, suc, _+_, _≤_, _<_}
 use native.Mathlib.Omega.{arith}
-use lib.Dec.{T}
+use lib.Dec.{T, eqb}
 use lib.ListN.{length, getD, take, drop, take-append-drop, List·getD-append}
 use lib.Seq.{take-length, drop-cons, drop-append-le, length-take-le, getD-take}
+use borrow.Author.Tests.{eqb-true, eqb-false}
 use Rattle.table.specs.Lists.{member, count}
 use Rattle.table.specs.Table.{Side, records, linkOf, rootOf, chain}
 use Rattle.table.specs.Tree.{nodes, tree}
 use Rattle.table.specs.Refusal.{links}
-use Rattle.table.specs.Steps.{Rooted, Queue, Filled, present, notReached}
+use Rattle.table.specs.Steps.{Rooted, Queue, Ordered, Filled, present, notReached}
 use Rattle.table.proofs.Lists.{T-true, passes, or-T, any-false, same, same-one, member-append, member-cons, member-count, within, length-within, within-back}
 use Rattle.table.proofs.Chain.{links-append, names, namer, reached}
 use Rattle.table.proofs.Causes.{sound-distinct, sound-within, sound-length, nodes-rooted}
@@ -113,23 +114,29 @@ module _ (t order : List ℕ) (m n : ℕ) (r : Rooted t) (long : length order �
   whole : Queue t (length (take m order)) (take m order)
   whole = subst (λ (k : ℕ). Queue t k (take m order)) (sym size-order) (q .1)
 
-  pub missed : (m ≡ n → ⊥) → false ≡ not (notReached t)
+  missed : (m ≡ n → ⊥) → false ≡ not (notReached t)
   missed d = go (notReached t) refl
     where
       go : (b : Bool) → notReached t ≡ b → false ≡ not b
       go true e = refl
       go false e = absurd (d (omega (arith, size-order, reached-all t r (take m order) whole e)))
 
-  module _ (e : m ≡ n) where
-    as-long : length (take m order) ≡ length (chain t)
-    as-long = omega (arith, size-order)
+  none-missed : m ≡ n → notReached t ≡ false
+  none-missed e = all-reached t r (take m order) whole (omega (arith, size-order))
 
-    pub none-missed : notReached t ≡ false
-    none-missed = all-reached t r (take m order) whole as-long
+  pub ordered : (eqb m n ≡ not (notReached t)) × (eqb m n ≡ true → Ordered t n order)
+  ordered = go (eqb m n) refl
+    where
+      go : (b : Bool) → eqb m n ≡ b → (b ≡ not (notReached t)) × (b ≡ true → Ordered t n order)
+      go true d =
+          let e = eqb-true m n d in
+          (ap not (sym (none-missed e)), λ y. record { enough = omega (arith, q .0); queued = λ some. subst (λ (k : ℕ). Queue t k (take k order)) e (q .1) })
+      go false d = (missed (eqb-false m n d), λ y. absurd (false≢true y))
 
-    pub filled-chain : (sizes : List ℕ) → Filled t (take m order) sizes → Filled t (chain t) sizes
-    filled-chain sizes f = record {
-      long = f .long;
-      sized = λ k h. f .sized k (member-count k (take m order) .1 (omega (arith, member-count k (chain t) .0 h, within-back (take m order) (chain t) (q .1 .within) (omega (arith, as-long)) k)));
-      none = f .none;
-    }
+-- What is filled for a whole order is filled for the chain.
+pub filled-chain : (t order : List ℕ) (n : ℕ) → n ≤ length order → Queue t n (take n order) → n ≡ length (chain t) → (sizes : List ℕ) → Filled t (take n order) sizes → Filled t (chain t) sizes
+filled-chain t order n long q nodes sizes f = record {
+  long = f .long;
+  sized = λ k h. f .sized k (member-count k (take n order) .1 (omega (arith, member-count k (chain t) .0 h, within-back (take n order) (chain t) (q .within) (omega (arith, length-take-le n order long)) k)));
+  none = f .none;
+}

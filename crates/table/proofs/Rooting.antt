@@ -11,7 +11,7 @@ use borrow.Author.Tests.{eq-eqb, ne-eqb, eqb-true, eqb-false, not-false}
 use Rattle.table.specs.Lists.{member}
 use Rattle.table.specs.Table.{records, nextOf, rootOf, follow, chain}
 use Rattle.table.specs.Refusal.{badChain, badLinks, isEmpty, named, badTree, fault}
-use Rattle.table.specs.Steps.{Shaped, Listed, Marked, Rooted, Filled, Grown, notOnce, notReached}
+use Rattle.table.specs.Steps.{Shaped, Listed, Marked, Rooted, Ordered, Filled, Grown, notOnce, notReached}
 use Rattle.table.proofs.Lists.{T-true, T-false, or-false}
 use Rattle.table.proofs.Chain.{follow-none}
 use Rattle.table.proofs.Causes.{sound-within}
@@ -29,11 +29,10 @@ starts (suc n) t zero h e = refl
 starts (suc n) t (suc k) h e = absurd (omega arith)
 
 -- Without one, it is empty if the chain is.
-tree-empty : (t : List ℕ) → Shaped t → rootOf t ≡ 0 → length (chain t) ≡ 0 → (badTree t ≡ false) × (chain t ≡ [])
+tree-empty : (t : List ℕ) → Shaped t → rootOf t ≡ 0 → length (chain t) ≡ 0 → badTree t ≡ false
 unfolding badTree isEmpty chain
 tree-empty t s e l =
-    let n = starts (records t) t (nextOf t 0) (s .head) l in
-    (rw (eq-eqb (nextOf t 0) 0 n, eq-eqb (rootOf t) 0 e), rw n (follow-none (records t) t))
+    rw (eq-eqb (nextOf t 0) 0 (starts (records t) t (nextOf t 0) (s .head) l), eq-eqb (rootOf t) 0 e)
 
 tree-headless : (t : List ℕ) → badChain t ≡ false → rootOf t ≡ 0 → (length (chain t) ≡ 0 → ⊥) → badTree t ≡ true
 unfolding badTree isEmpty
@@ -59,11 +58,11 @@ accepted t r e =
       e,
     )
 
-pub grown-bad : (t sizes : List ℕ) → badTree t ≡ true → Grown t false sizes
-grown-bad t sizes e = record { good = rw e; filled = λ z. absurd (false≢true z) }
+pub grown-bad : (t : List ℕ) (n : ℕ) (order : List ℕ) → badTree t ≡ true → Grown t false n order
+grown-bad t n order e = record { good = rw e; ordered = λ z. absurd (false≢true z) }
 
-pub marked-by : (t mark : List ℕ) (k : ℕ) (r : Bool) → Marked t mark → r ≡ not (eqb (getD mark k 0) 0) → r ≡ member k (chain t)
-marked-by t mark k r m e = e ∙ rw (m .marks k) (go (member k (chain t)))
+pub marked-by : (t mark : List ℕ) (k : ℕ) (r : Bool) → (k ≡ 0 → ⊥) → Marked t mark → r ≡ not (eqb (getD mark k 0) 0) → r ≡ member k (chain t)
+marked-by t mark k r n m e = e ∙ rw (m .marks k, ne-eqb k 0 n) (go (member k (chain t)))
   where
     go : (b : Bool) → not (eqb (cond b 1 0) 0) ≡ b
     go true = refl
@@ -74,12 +73,12 @@ pub unfilled : (t sizes : List ℕ) → length sizes ≡ 4097 → Filled t [] (s
 unfolding member
 unfilled t sizes l = record { long = simp length-set l; sized = λ k h. absurd h; none = getD-set-same sizes 0 0 0 (omega arith) }
 
-pub rootless : (t : List ℕ) (n : ℕ) (list sizes : List ℕ) → Listed t n list → rootOf t ≡ 0 → Filled t [] sizes → Grown t (eqb n 0) sizes
-rootless t n list sizes l e f = go (eqb n 0) refl
+pub rootless : (t : List ℕ) (n : ℕ) (list order : List ℕ) → Listed t n list → rootOf t ≡ 0 → Grown t (eqb n 0) n order
+rootless t n list order l e = go (eqb n 0) refl
   where
-    go : (b : Bool) → eqb n 0 ≡ b → Grown t b sizes
-    go true d = let z = tree-empty t (l .shaped) e (sym (l .nodes) ∙ eqb-true n 0 d) in record { good = rw (z .0); filled = λ y. rw (z .1) f }
-    go false d = grown-bad t sizes (tree-headless t (l .sound) e (λ z. eqb-false n 0 d (l .nodes ∙ z)))
+    go : (b : Bool) → eqb n 0 ≡ b → Grown t b n order
+    go true d = let z = eqb-true n 0 d in record { good = rw (tree-empty t (l .shaped) e (sym (l .nodes) ∙ z)); ordered = λ y. record { enough = omega arith; queued = λ some. absurd (some z) } }
+    go false d = grown-bad t n order (tree-headless t (l .sound) e (λ z. eqb-false n 0 d (l .nodes ∙ z)))
 
 -- With a root other than zero.
 module _ (t : List ℕ) (root : ℕ) (e : root ≡ rootOf t) (some : root ≡ 0 → ⊥) where
@@ -93,8 +92,8 @@ module _ (t : List ℕ) (root : ℕ) (e : root ≡ rootOf t) (some : root ≡ 0 
   ill-named n = rw (tests, n, or-true)
 
   module _ (m : member root (chain t) ≡ true) (n : not (eqb (named t root) 0) || notOnce t ≡ false) where
-    pub grown : (r : Bool) (sizes : List ℕ) → r ≡ not (notReached t) → (r ≡ true → Filled t (chain t) sizes) → Grown t r sizes
-    grown r sizes d f = record { good = rw (tests, m, n, d); filled = f }
+    pub grown : (r : Bool) (k : ℕ) (order : List ℕ) → r ≡ not (notReached t) → (r ≡ true → Ordered t k order) → Grown t r k order
+    grown r k order d o = record { good = rw (tests, m, n, d); ordered = o }
 
     pub rooted : Shaped t → badChain t ≡ false → badLinks t ≡ false → Rooted t
     rooted s c l =

@@ -1,7 +1,7 @@
 -- Going through a listed chain: where its records are, and when none of them passes a test. Rests on Lists and Causes.
 use mathlib.Core.Path.{_≡_, refl, sym, ap, _∙_, subst}
 use mathlib.Core.Logic.{inl, inr, ⊎-elim}
-use mathlib.Core.Bool.{Bool, true, false, not, cond, _&&_, _||_, or-true}
+use mathlib.Core.Bool.{Bool, true, false, not, cond, _&&_, _||_, or-true, Bool·not-not}
 use mathlib.Core.List.{List, [], _∷_}
 use Prim.Native.Nat.{ℕ, zero, suc, _<_}
 use native.Mathlib.Omega.{arith}
@@ -55,14 +55,15 @@ module _ (t : List ℕ) (n : ℕ) (list : List ℕ) (l : Listed t n list) where
       let s : p .0 < n = omega (arith, p .1, l .nodes) in
       ap f (sym (p .2) ∙ same-place (p .0) s) ∙ h (p .0) s)
 
-  -- A link that is not zero is stray if it is not marked.
-  stray-mark : (mark : List ℕ) → Marked t mark → (k : ℕ) → not (eqb k 0) && eqb (getD mark k 0) 0 ≡ stray t k
+  -- A link is stray if it is not marked.
+  stray-mark : (mark : List ℕ) → Marked t mark → (k : ℕ) → eqb (getD mark k 0) 0 ≡ stray t k
   unfolding stray beyond
-  stray-mark mark m k = ap (λ (b : Bool). not (eqb k 0) && b) (rw (m .marks k) (go (member k (chain t)) refl))
+  stray-mark mark m k = rw (m .marks k) (go (eqb k 0) (member k (chain t)) refl)
     where
-      go : (b : Bool) → member k (chain t) ≡ b → eqb (cond b 1 0) 0 ≡ beyond t k || not b
-      go true e = rw (lt-leb (records t) k (sound-within t (l .sound) k (T-true (member k (chain t)) .1 e) .1))
-      go false e = rw or-true
+      go : (a b : Bool) → member k (chain t) ≡ b → eqb (cond (a || b) 1 0) 0 ≡ not a && (beyond t k || not b)
+      go true b e = refl
+      go false true e = rw (lt-leb (records t) k (sound-within t (l .sound) k (T-true (member k (chain t)) .1 e) .1))
+      go false false e = rw or-true
 
-  pub stray-by : (mark : List ℕ) → Marked t mark → (r b : Bool) (k link : ℕ) → r ≡ b → r ≡ not (eqb link 0) && eqb (getD mark link 0) 0 → link ≡ k → stray t k ≡ b
-  stray-by mark m r b k link d e f = ap (stray t) (sym f) ∙ sym (stray-mark mark m link) ∙ sym e ∙ d
+  pub stray-by : (mark : List ℕ) → Marked t mark → (r b : Bool) (k link : ℕ) → not r ≡ b → r ≡ not (eqb (getD mark link 0) 0) → link ≡ k → stray t k ≡ b
+  stray-by mark m r b k link d e f = ap (stray t) (sym f) ∙ sym (stray-mark mark m link) ∙ sym (Bool·not-not _) ∙ ap not (sym e) ∙ d

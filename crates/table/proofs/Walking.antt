@@ -1,4 +1,4 @@
--- The walk along the chain: what its loop keeps, and how it ends. Rests on Lists, Chain and Causes.
+-- The walk along the chain: what its loop keeps, and how it ends. Rests on Lists, Chain, Tally and Causes.
 use mathlib.Core.Path.{_≡_, refl, sym, ap, _∙_}
 use mathlib.Core.Logic.{_⊎_, inl, inr, ⊎-elim, ⊎-map}
 use mathlib.Core.Bool.{Bool, true, false, cond, _||_, or-true, or-false}
@@ -13,36 +13,41 @@ use lib.Seq.{take-suc-set, length-take-le, getD-set-same, getD-set-other}
 use borrow.Author.Tests.{eq-eqb, ne-eqb, lt-leb}
 use Rattle.table.specs.Lists.{any, member, repeats, count}
 use Rattle.table.specs.Table.{records, nextOf, follow, chain}
-use Rattle.table.specs.Refusal.{beyond, badChain}
+use Rattle.table.specs.Refusal.{beyond, badChain, links}
 use Rattle.table.specs.Steps.{Shaped, Blank, Walked}
 use Rattle.table.proofs.Lists.{or-T, or-false as or-false², any-false, member-append, member-count, member-none, same, same-one, alike, Alike, count-append, Distinct, repeats-count, length-between}
 use Rattle.table.proofs.Chain.{follow-none}
+use Rattle.table.proofs.Tally.{Counts, counted-all}
 use Rattle.table.proofs.Causes.{sound-distinct, sound-within}
 
--- After i records, with the walk at record `at`: they are the start of the chain, distinct and within the table, and they alone are marked.
+-- After i records, with the walk at record `at`: they are the start of the chain, distinct and within the table, and they and zero are marked.
 pub record Walk (t : List ℕ) (i at : ℕ) (list mark : List ℕ) : Type 0 where
   pub split : chain t ≡ take i list ++ follow (records t - i) t at
   pub once : Distinct (take i list)
   pub within : (k : ℕ) → T (member k (take i list)) → (1 ≤ k) × (k < records t)
-  pub marks : (k : ℕ) → getD mark k 0 ≡ cond (member k (take i list)) 1 0
+  pub marks : (k : ℕ) → getD mark k 0 ≡ cond (eqb k 0 || member k (take i list)) 1 0
   pub room : i < records t
   pub at-small : at < 65536
   pub list-long : length list ≡ 4097
   pub mark-long : length mark ≡ 4097
 
-pub walk-start : (t : List ℕ) (at : ℕ) (list mark : List ℕ) → Shaped t → length list ≡ 4097 → Blank mark → at ≡ nextOf t 0 → at < 65536 → Walk t 0 at list mark
+pub walk-start : (t : List ℕ) (at : ℕ) (list mark : List ℕ) → Shaped t → length list ≡ 4097 → Blank mark → at ≡ nextOf t 0 → at < 65536 → Walk t 0 at list (set mark 0 1)
 unfolding chain member repeats
 walk-start t at list mark s l z e b =
     record {
       split = rw (sub-zero, e);
       once = refl;
       within = λ k h. absurd h;
-      marks = z .zeros;
+      marks = λ k. go (alike k 0);
       room = s .head;
       at-small = b;
       list-long = l;
-      mark-long = z .long;
+      mark-long = simp length-set (z .long);
     }
+  where
+    go : {k : ℕ} → Alike k 0 → getD (set mark 0 1) k 0 ≡ cond (eqb k 0 || false) 1 0
+    go {k} (inl e) = rw (e .0) (getD-set-same mark 0 1 0 (omega (arith, z .long)))
+    go {k} (inr e) = rw (ne-eqb k 0 (e .0), getD-set-other mark 0 k 1 0 (e .0)) (z .zeros k)
 
 follow-some : (n : ℕ) (t : List ℕ) (k : ℕ) → (k ≡ 0 → ⊥) → follow (suc n) t k ≡ k ∷ follow n t (nextOf t k)
 unfolding follow
@@ -50,20 +55,21 @@ follow-some n t zero p = absurd (p refl)
 follow-some n t (suc k) p = refl
 
 -- Cause 3 holds if it cannot be otherwise.
-refused : (t list mark : List ℕ) → (badChain t ≡ false → ⊥) → Walked t (record { refusal = 3; nodes = 0 }) list mark
-refused t list mark h = record { refusal = go (badChain t) h; chained = λ r. absurd (omega arith); marked = λ r. absurd (omega arith) }
+refused : (t list mark tally : List ℕ) → (badChain t ≡ false → ⊥) → Walked t (record { refusal = 3; nodes = 0 }) list mark tally
+refused t list mark tally h = record { refusal = go (badChain t) h; chained = λ r. absurd (omega arith); marked = λ r. absurd (omega arith); tallied = λ r. absurd (omega arith) }
   where
     go : (b : Bool) → (b ≡ false → ⊥) → _≡_ {A = ℕ} 3 (cond b 3 0)
     go true h = refl
     go false h = absurd (h refl)
 
-seen : (b : Bool) → (_≡_ {A = ℕ} (cond b 1 0) 0 → ⊥) → T b
-seen true h = tt
-seen false h = absurd (h refl)
+seen : (k : ℕ) → (k ≡ 0 → ⊥) → (b : Bool) → (_≡_ {A = ℕ} (cond (eqb k 0 || b) 1 0) 0 → ⊥) → T b
+seen k n true h = tt
+seen k n false h = absurd (h (rw (ne-eqb k 0 n)))
 
-unseen : (b : Bool) → _≡_ {A = ℕ} (cond b 1 0) 0 → b ≡ false
-unseen true e = absurd (omega arith)
-unseen false e = refl
+unseen : (a b : Bool) → _≡_ {A = ℕ} (cond (a || b) 1 0) 0 → b ≡ false
+unseen true b e = absurd (omega arith)
+unseen false true e = absurd (omega arith)
+unseen false false e = refl
 
 module _ (t : List ℕ) (i at : ℕ) (list mark : List ℕ) (w : Walk t i at list mark) where
   -- At zero the chain has ended, and cause 3 does not hold.
@@ -78,8 +84,8 @@ module _ (t : List ℕ) (i at : ℕ) (list mark : List ℕ) (w : Walk t i at lis
     long : i ≤ length list
     long = omega (arith, w .room, w .list-long, shaped .room)
 
-    pub walk-end : Walked t (record { refusal = 0; nodes = i }) list mark
-    walk-end = record {
+    pub walk-end : (tally : List ℕ) → Counts (links t (take i list)) tally → Walked t (record { refusal = 0; nodes = i }) list mark tally
+    walk-end tally d = record {
       refusal = rw sound;
       chained =
           λ r. record {
@@ -90,6 +96,7 @@ module _ (t : List ℕ) (i at : ℕ) (list mark : List ℕ) (w : Walk t i at lis
             listed = sym ended;
           };
       marked = λ r. record { long = w .mark-long; marks = rw ended (w .marks) };
+      tallied = λ r. counted-all t tally (take i list) (sym ended) d;
     }
 
   module _ (on : at ≡ 0 → ⊥) where
@@ -100,20 +107,20 @@ module _ (t : List ℕ) (i at : ℕ) (list mark : List ℕ) (w : Walk t i at lis
     unfolding count
     one-more = rw (more, count-append) (omega (arith, same-one at at refl))
 
-    pub walk-beyond : records t ≤ at → Walked t (record { refusal = 3; nodes = 0 }) list mark
-    walk-beyond b = refused t list mark (λ s. omega (arith, sound-within t s at (member-count at (chain t) .1 (omega (arith, one-more)))))
+    pub walk-beyond : (tally : List ℕ) → records t ≤ at → Walked t (record { refusal = 3; nodes = 0 }) list mark tally
+    walk-beyond tally b = refused t list mark tally (λ s. omega (arith, sound-within t s at (member-count at (chain t) .1 (omega (arith, one-more)))))
 
-    pub walk-twice : (getD mark at 0 ≡ 0 → ⊥) → Walked t (record { refusal = 3; nodes = 0 }) list mark
-    walk-twice m =
-        refused t list mark
-        (λ s. omega (arith, one-more, repeats-count (chain t) .0 (sound-distinct t s) at, member-count at (take i list) .0 (seen (member at (take i list)) (λ e. m (w .marks at ∙ e)))))
+    pub walk-twice : (tally : List ℕ) → (getD mark at 0 ≡ 0 → ⊥) → Walked t (record { refusal = 3; nodes = 0 }) list mark tally
+    walk-twice tally m =
+        refused t list mark tally
+        (λ s. omega (arith, one-more, repeats-count (chain t) .0 (sound-distinct t s) at, member-count at (take i list) .0 (seen at on (member at (take i list)) (λ e. m (w .marks at ∙ e)))))
 
     module _ (shaped : Shaped t) (b : at < records t) (m : getD mark at 0 ≡ 0) where
       taken : take (i + 1) (set list i at) ≡ take i list ++ (at ∷ [])
       taken = rw add-one (take-suc-set list i at (omega (arith, w .room, w .list-long, shaped .room)))
 
       fresh : count at (take i list) ≡ 0
-      fresh = member-none at (take i list) .0 (unseen (member at (take i list)) (sym (w .marks at) ∙ m))
+      fresh = member-none at (take i list) .0 (unseen (eqb at 0) (member at (take i list)) (sym (w .marks at) ∙ m))
 
       once : Distinct (take i list ++ (at ∷ []))
       unfolding count
@@ -131,12 +138,12 @@ module _ (t : List ℕ) (i at : ℕ) (list mark : List ℕ) (w : Walk t i at lis
       within : (k : ℕ) → T (member k (take i list ++ (at ∷ []))) → (1 ≤ k) × (k < records t)
       within k h = ⊎-elim (w .within k) (λ (e : k ≡ at). omega (arith, on)) (cases k h)
 
-      marks : (k : ℕ) → getD (set mark at 1) k 0 ≡ cond (member k (take i list ++ (at ∷ []))) 1 0
+      marks : (k : ℕ) → getD (set mark at 1) k 0 ≡ cond (eqb k 0 || member k (take i list ++ (at ∷ []))) 1 0
       unfolding member
       marks k = rw member-append (go (alike k at))
         where
-          go : Alike k at → getD (set mark at 1) k 0 ≡ cond (member k (take i list) || (eqb k at || false)) 1 0
-          go (inl e) = rw (e .0, eq-eqb at at refl, or-true) (getD-set-same mark at 1 0 (omega (arith, w .mark-long, shaped .room)))
+          go : Alike k at → getD (set mark at 1) k 0 ≡ cond (eqb k 0 || (member k (take i list) || (eqb k at || false))) 1 0
+          go (inl e) = rw (e .0, eq-eqb at at refl, or-true, or-true) (getD-set-same mark at 1 0 (omega (arith, w .mark-long, shaped .room)))
           go (inr e) = rw (ne-eqb k at (e .0), or-false, getD-set-other mark at k 1 0 (e .0)) (w .marks k)
 
       pub walk-step : nextOf t at < 65536 → Walk t (i + 1) (nextOf t at) (set list i at) (set mark at 1)

@@ -9,6 +9,18 @@ use Rattle.table.specs.Lists.{member}
 use Rattle.table.specs.Table.{chain}
 use Rattle.table.specs.Tree.{size, treeAt}
 use Rattle.table.specs.Refusal.{refusal}
+use Rattle.table.specs.Steps.{Ordered}
+
+-- n is the number of nodes, the first n numbers of list are the chain, and those of order the nodes, breadth first.
+pub record Traced (t : List ℕ) (n : ℕ) (list order : List ℕ) : Type 0 where
+  pub nodes : n ≡ length (chain t)
+  pub listed : take n list ≡ chain t
+  pub ordered : Ordered t n order
+
+-- "A refusal is given if its cause holds and no earlier one does, and never otherwise"; a table that is not refused is listed.
+pub record TracedOf (t : List ℕ) (places : ℕ) (r : Reading) (list order : List ℕ) : Type 0 where
+  pub refusal : r .refusal ≡ refusal t places
+  pub accepted : r .refusal ≡ 0 → Traced t (r .nodes) list order
 
 -- n is the number of nodes, the first n numbers of list are the chain, and sizes has the size of the subtree at each node, 0 at zero, which "is none".
 pub record Sized (t : List ℕ) (n : ℕ) (list sizes : List ℕ) : Type 0 where
@@ -17,7 +29,7 @@ pub record Sized (t : List ℕ) (n : ℕ) (list sizes : List ℕ) : Type 0 where
   pub sized : (k : ℕ) → T (member k (chain t)) → getD sizes k 0 ≡ size (treeAt t k)
   pub none : getD sizes 0 0 ≡ 0
 
--- "A refusal is given if its cause holds and no earlier one does, and never otherwise"; a table that is not refused is listed and sized.
+-- The same; a table that is not refused is listed and sized.
 pub record ReadOf (t : List ℕ) (places : ℕ) (r : Reading) (list sizes : List ℕ) : Type 0 where
   pub refusal : r .refusal ≡ refusal t places
   pub accepted : r .refusal ≡ 0 → Sized t (r .nodes) list sizes

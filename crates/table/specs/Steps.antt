@@ -1,6 +1,6 @@
 -- What the steps of a reading leave to the next one. No promise to a caller is here.
 use mathlib.Core.Path.{_≡_}
-use mathlib.Core.Bool.{Bool, true, false, cond, not, _&&_}
+use mathlib.Core.Bool.{Bool, true, false, cond, not, _&&_, _||_}
 use mathlib.Core.List.{List, [], _∷_}
 use Prim.Native.Nat.{ℕ, zero, suc, _≤_, _<_}
 use lib.Dec.{T, eqb}
@@ -31,21 +31,22 @@ pub record Blank (l : List ℕ) : Type 0 where
   pub long : length l ≡ 4097
   pub zeros : (k : ℕ) → getD l k 0 ≡ 0
 
--- mark has 1 at the records of the chain, 0 at the others.
+-- mark has 1 at zero, which is no child, and at the records of the chain, 0 at the others.
 pub record Marked (t mark : List ℕ) : Type 0 where
   pub long : length mark ≡ 4097
-  pub marks : (k : ℕ) → getD mark k 0 ≡ cond (member k (chain t)) 1 0
-
--- What a walk along the chain answers.
-pub record Walked (t : List ℕ) (r : Reading) (list mark : List ℕ) : Type 0 where
-  pub refusal : r .refusal ≡ cond (badChain t) 3 0
-  pub chained : r .refusal ≡ 0 → Listed t (r .nodes) list
-  pub marked : r .refusal ≡ 0 → Marked t mark
+  pub marks : (k : ℕ) → getD mark k 0 ≡ cond (eqb k 0 || member k (chain t)) 1 0
 
 -- tally has how often each record is named as a child.
 pub record Tallied (t tally : List ℕ) : Type 0 where
   pub long : length tally ≡ 4097
-  pub tallies : (k : ℕ) → getD tally k 0 ≡ named t k
+  pub tallies : (k : ℕ) → k < 4097 → getD tally k 0 ≡ named t k
+
+-- What a walk along the chain answers.
+pub record Walked (t : List ℕ) (r : Reading) (list mark tally : List ℕ) : Type 0 where
+  pub refusal : r .refusal ≡ cond (badChain t) 3 0
+  pub chained : r .refusal ≡ 0 → Listed t (r .nodes) list
+  pub marked : r .refusal ≡ 0 → Marked t mark
+  pub tallied : r .refusal ≡ 0 → Tallied t tally
 
 -- The parts of cause 5 that are left when the root is on the chain: another chained node is not named exactly once, one is not reached.
 unfoldable pub notOnce : List ℕ → Bool
@@ -82,7 +83,12 @@ pub record Filled (t : List ℕ) (ks sizes : List ℕ) : Type 0 where
   pub sized : (k : ℕ) → T (member k ks) → getD sizes k 0 ≡ size (treeAt t k)
   pub none : getD sizes 0 0 ≡ 0
 
+-- The first n numbers of order are the n nodes, breadth first.
+pub record Ordered (t : List ℕ) (n : ℕ) (order : List ℕ) : Type 0 where
+  pub enough : n ≤ length order
+  pub queued : (n ≡ 0 → ⊥) → Queue t n (take n order)
+
 -- What the tests of cause 5 answer.
-pub record Grown (t : List ℕ) (r : Bool) (sizes : List ℕ) : Type 0 where
+pub record Grown (t : List ℕ) (r : Bool) (n : ℕ) (order : List ℕ) : Type 0 where
   pub good : r ≡ not (badTree t)
-  pub filled : r ≡ true → Filled t (chain t) sizes
+  pub ordered : r ≡ true → Ordered t n order

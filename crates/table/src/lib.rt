@@ -1,4 +1,4 @@
-// Reading a table of records: the refusals, the chain and the sizes of the subtrees.
+// Reading a table of records: the refusals, the chain, the nodes breadth first and the sizes of the subtrees.
 mod links;
 mod naming;
 mod reach;
@@ -8,6 +8,7 @@ pub mod words;
 use crate::links::marked;
 use crate::links::strays;
 use crate::naming::misnamed;
+use crate::reach::measure;
 use crate::reach::reaches;
 use crate::walk::walk;
 use crate::words::left;
@@ -17,8 +18,8 @@ ghost use mathlib.Core.Path.{_≡_};
 ghost use mathlib.Core.Bool.{cond, false};
 ghost use lib.ListN.{length};
 ghost use Rattle.table.specs.Refusal.{badLength, badHead, badLinks, refusal};
-ghost use Rattle.table.specs.Reading.{ReadOf};
-ghost use Rattle.table.specs.Steps.{Listed, Marked, Grown};
+ghost use Rattle.table.specs.Reading.{TracedOf, ReadOf};
+ghost use Rattle.table.specs.Steps.{Blank, Listed, Marked, Tallied, Grown};
 
 // A refusal, or 0 and the number of nodes.
 pub struct Reading {
@@ -58,15 +59,14 @@ fn shape(table: &[u8]) -> u16
     0
 }
 
-// Whether the records of the chain make a tree; then fills the sizes of its subtrees.
-fn grow(table: &[u8], chain: &[u16], nodes: usize, mark: &[u16], sizes: &mut [u16]) -> bool
+// Whether the records of the chain make a tree; then lists its nodes, breadth first, in place of how often they are named.
+fn grow(table: &[u8], chain: &[u16], nodes: usize, mark: &[u16], order: &mut [u16]) -> bool
     requires { ⌜ Listed (now table) nodes (now chain) ⌝ }
     requires { ⌜ Marked (now table) (now mark) ⌝ }
     requires { ⌜ badLinks (now table) ≡ false ⌝ }
-    requires { ⌜ length (now sizes) ≡ 4097 ⌝ }
-    ensures { λ r. ⌜ Grown (now (table .entry)) r (now (sizes .exit)) ⌝ }
+    requires { ⌜ Tallied (now table) (now order) ⌝ }
+    ensures { λ r. ⌜ Grown (now (table .entry)) r nodes (now (order .exit)) ⌝ }
 {
-    sizes[0] = 0;
     let root = left(table, 0);
     if root == 0 {
         return nodes == 0;
@@ -74,23 +74,24 @@ fn grow(table: &[u8], chain: &[u16], nodes: usize, mark: &[u16], sizes: &mut [u1
     if !marked(mark, root) {
         return false;
     }
-    if misnamed(table, chain, nodes, root) {
+    if misnamed(table, chain, nodes, root, order) {
         return false;
     }
-    reaches(table, nodes, sizes)
+    reaches(table, nodes, order)
 }
 
-// Causes 1 to 6. Of an accepted table, chain lists the nodes and sizes has the size of the subtree at each.
-pub fn read(table: &[u8], places: usize, chain: &mut [u16], sizes: &mut [u16]) -> Reading
-    requires { ⌜ (length (now chain) ≡ 4097) × (length (now sizes) ≡ 4097) ⌝ }
-    ensures { λ r. ⌜ ReadOf (now (table .entry)) places r (now (chain .exit)) (now (sizes .exit)) ⌝ }
+// Causes 1 to 6. Of an accepted table, chain lists the nodes, and order lists them breadth first.
+pub fn trace(table: &[u8], places: usize, chain: &mut [u16], order: &mut [u16]) -> Reading
+    requires { ⌜ length (now chain) ≡ 4097 ⌝ }
+    requires { ⌜ Blank (now order) ⌝ }
+    ensures { λ r. ⌜ TracedOf (now (table .entry)) places r (now (chain .exit)) (now (order .exit)) ⌝ }
 {
     let unfit = shape(table);
     if unfit != 0 {
         return refused(unfit);
     }
     let mut mark = [0u16; 4097];
-    let walked = walk(table, chain, &mut mark);
+    let walked = walk(table, chain, &mut mark, order);
     if walked.refusal != 0 {
         return walked;
     }
@@ -98,13 +99,31 @@ pub fn read(table: &[u8], places: usize, chain: &mut [u16], sizes: &mut [u16]) -
     if strays(table, chain, nodes, &mark) {
         return refused(4);
     }
-    if !grow(table, chain, nodes, &mark, sizes) {
+    if !grow(table, chain, nodes, &mark, order) {
         return refused(5);
     }
     if places < 2 * (table.len() / 8) {
         return refused(6);
     }
     Reading { refusal: 0, nodes }
+}
+
+// The same. Of an accepted table, sizes has the size of the subtree at each node.
+pub fn read(table: &[u8], places: usize, chain: &mut [u16], sizes: &mut [u16]) -> Reading
+    requires { ⌜ (length (now chain) ≡ 4097) × (length (now sizes) ≡ 4097) ⌝ }
+    ensures { λ r. ⌜ ReadOf (now (table .entry)) places r (now (chain .exit)) (now (sizes .exit)) ⌝ }
+{
+    sizes[0] = 0;
+    let mut order = [0u16; 4097];
+    let reading = trace(table, places, chain, &mut order);
+    if reading.refusal != 0 {
+        return reading;
+    }
+    if reading.nodes == 0 {
+        return reading;
+    }
+    measure(table, &order, reading.nodes, sizes);
+    reading
 }
 
 // Why a table with this many placements is refused; 0 if it is not.

@@ -2,7 +2,7 @@
 use crate::words::left;
 use crate::words::right;
 ghost use mathlib.Core.Path.{_≡_};
-ghost use mathlib.Core.Bool.{not, _&&_};
+ghost use mathlib.Core.Bool.{not};
 ghost use lib.Dec.{eqb};
 ghost use lib.ListN.{getD};
 ghost use Rattle.table.specs.Refusal.{badLinks};
@@ -18,17 +18,7 @@ pub fn marked(mark: &[u16], k: usize) -> bool
     mark[k] != 0
 }
 
-// Whether a link names a record that is not marked.
-fn stray(mark: &[u16], link: usize) -> bool
-    ensures { λ r. ⌜ r ≡ (not (eqb link 0) && eqb (getD (now (mark .entry)) link 0) 0) ⌝ }
-{
-    if link == 0 {
-        return false;
-    }
-    !marked(mark, link)
-}
-
-// Whether a chained node has such a link.
+// Whether a chained node has a link to a record that is not marked.
 pub fn strays(table: &[u8], chain: &[u16], nodes: usize, mark: &[u16]) -> bool
     requires { ⌜ Listed (now table) nodes (now chain) ⌝ }
     requires { ⌜ Marked (now table) (now mark) ⌝ }
@@ -37,10 +27,10 @@ pub fn strays(table: &[u8], chain: &[u16], nodes: usize, mark: &[u16]) -> bool
     let mut i = 0;
     while i < nodes {
         let k = chain[i] as usize;
-        if stray(mark, left(table, k)) {
+        if !marked(mark, left(table, k)) {
             return true;
         }
-        if stray(mark, right(table, k)) {
+        if !marked(mark, right(table, k)) {
             return true;
         }
         i += 1;

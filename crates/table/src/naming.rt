@@ -1,37 +1,22 @@
 // How often the records are named as children.
-use crate::words::left;
-use crate::words::right;
 ghost use mathlib.Core.Path.{_≡_};
-ghost use mathlib.Core.Bool.{false, _||_, _&&_, not};
+ghost use mathlib.Core.Bool.{_||_, _&&_, not};
 ghost use Prim.Native.Nat.{_+_, _<_};
 ghost use lib.Dec.{eqb};
 ghost use lib.ListN.{length, getD, set};
 ghost use Rattle.table.specs.Table.{rootOf};
-ghost use Rattle.table.specs.Refusal.{badLinks, named};
-ghost use Rattle.table.specs.Steps.{Listed, Blank, Tallied, notOnce};
+ghost use Rattle.table.specs.Refusal.{named};
+ghost use Rattle.table.specs.Steps.{Listed, Tallied, notOnce};
 
-// One more link to record k.
-fn tick(tally: &mut [u16], k: usize)
-    requires { ⌜ (k < length (now tally)) × (getD (now tally) k 0 < 65535) ⌝ }
+// One more link to record k, if the tally has room for it.
+pub fn tick(tally: &mut [u16], k: usize)
+    requires { ⌜ getD (now tally) k 0 < 65535 ⌝ }
     ensures { λ _. ⌜ now (tally .exit) ≡ set (now (tally .entry)) k (getD (now (tally .entry)) k 0 + 1) ⌝ }
 {
-    tally[k] += 1;
-}
-
-// Counts the links to each record.
-fn count(table: &[u8], chain: &[u16], nodes: usize, tally: &mut [u16])
-    requires { ⌜ Listed (now table) nodes (now chain) ⌝ }
-    requires { ⌜ badLinks (now table) ≡ false ⌝ }
-    requires { ⌜ Blank (now tally) ⌝ }
-    ensures { λ _. ⌜ Tallied (now (table .entry)) (now (tally .exit)) ⌝ }
-{
-    let mut i = 0;
-    while i < nodes {
-        let k = chain[i] as usize;
-        tick(tally, left(table, k));
-        tick(tally, right(table, k));
-        i += 1;
+    if tally.len() <= k {
+        return;
     }
+    tally[k] += 1;
 }
 
 // Whether record k is another than the root and not named exactly once.
@@ -63,17 +48,15 @@ fn some_not_once(table: &[u8], chain: &[u16], nodes: usize, tally: &[u16], root:
 }
 
 // Whether the root is named, or another chained node not exactly once.
-pub fn misnamed(table: &[u8], chain: &[u16], nodes: usize, root: usize) -> bool
+pub fn misnamed(table: &[u8], chain: &[u16], nodes: usize, root: usize, tally: &[u16]) -> bool
     requires { ⌜ Listed (now table) nodes (now chain) ⌝ }
-    requires { ⌜ badLinks (now table) ≡ false ⌝ }
     requires { ⌜ root ≡ rootOf (now table) ⌝ }
     requires { ⌜ root < 4097 ⌝ }
+    requires { ⌜ Tallied (now table) (now tally) ⌝ }
     ensures { λ r. ⌜ r ≡ (not (eqb (named (now (table .entry)) root) 0) || notOnce (now (table .entry))) ⌝ }
 {
-    let mut tally = [0u16; 4097];
-    count(table, chain, nodes, &mut tally);
     if tally[root] != 0 {
         return true;
     }
-    some_not_once(table, chain, nodes, &tally, root)
+    some_not_once(table, chain, nodes, tally, root)
 }

@@ -8,7 +8,7 @@ ghost use Prim.Native.Nat.{_+_, _≤_, _<_};
 ghost use lib.ListN.{length, take};
 ghost use Rattle.table.specs.Table.{chain as chainOf};
 ghost use Rattle.table.specs.Refusal.{fault};
-ghost use Rattle.table.specs.Steps.{Rooted, Queue, Filled, present, notReached};
+ghost use Rattle.table.specs.Steps.{Rooted, Queue, Ordered, Filled, present, notReached};
 
 // Puts a link that is not zero at the end of the order.
 fn push(order: &mut [u16], tail: usize, link: usize) -> usize
@@ -43,7 +43,7 @@ fn spread(table: &[u8], order: &mut [u16]) -> usize
 }
 
 // The sizes of the subtrees, from the last node of the order to the first.
-fn measure(table: &[u8], order: &[u16], nodes: usize, sizes: &mut [u16])
+pub fn measure(table: &[u8], order: &[u16], nodes: usize, sizes: &mut [u16])
     requires { ⌜ fault (now table) ≡ 0 ⌝ }
     requires { ⌜ (nodes ≤ length (now order)) × Queue (now table) nodes (take nodes (now order)) ⌝ }
     requires { ⌜ Filled (now table) [] (now sizes) ⌝ }
@@ -59,19 +59,14 @@ fn measure(table: &[u8], order: &[u16], nodes: usize, sizes: &mut [u16])
     }
 }
 
-// Whether all the nodes are reached; then fills the sizes.
-pub fn reaches(table: &[u8], nodes: usize, sizes: &mut [u16]) -> bool
+// Whether all the nodes are reached; then lists them, breadth first.
+pub fn reaches(table: &[u8], nodes: usize, order: &mut [u16]) -> bool
     requires { ⌜ Rooted (now table) ⌝ }
     requires { ⌜ nodes ≡ length (chainOf (now table)) ⌝ }
-    requires { ⌜ Filled (now table) [] (now sizes) ⌝ }
+    requires { ⌜ length (now order) ≡ 4097 ⌝ }
     ensures { λ r. ⌜ r ≡ not (notReached (now (table .entry))) ⌝ }
-    ensures { λ r. ⌜ (r ≡ true → Filled (now (table .entry)) (chainOf (now (table .entry))) (now (sizes .exit))) ⌝ }
+    ensures { λ r. ⌜ (r ≡ true → Ordered (now (table .entry)) nodes (now (order .exit))) ⌝ }
 {
-    let mut order = [0u16; 4097];
-    let reached = spread(table, &mut order);
-    if reached != nodes {
-        return false;
-    }
-    measure(table, &order, nodes, sizes);
-    true
+    let reached = spread(table, order);
+    reached == nodes
 }

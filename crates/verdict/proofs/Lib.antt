@@ -3,10 +3,8 @@ pub mod Unique
 pub mod Ends
 pub mod Clashes
 pub mod Decide
-pub mod Search
-pub mod Rows
 pub mod Nodes
-pub mod Listing
 pub mod Parent
 pub mod Turning
 pub mod Places
+pub mod Judged

@@ -9,49 +9,17 @@ use lib.IntN.{pos}
 use lib.Signed.{ltZ}
 use lib.ListN.{length, getD, take}
 use Rattle.segment.specs.declared.Point.{Point}
-use Rattle.segment.specs.Segment.{at, cross}
+use Rattle.segment.specs.Segment.{Clash, cross}
+use Rattle.sort.specs.Order.{Below, Pairs}
+use Rattle.sweep.specs.Line.{startOf, endOf, first, last}
 use Rattle.table.specs.Table.{Side, records, leftOf, rightOf, linkOf, rootOf, chain}
 use Rattle.table.specs.Refusal.{fault}
 use Rattle.verdict.specs.Lines.{pointOf, Line}
+use Rattle.verdict.specs.Verdict.{Condition, numbered}
 
--- A number below n of which P holds.
-abbrev pub Below : ℕ → (ℕ → Type 0) → Type 0
-Below n P = (i : ℕ) × (i < n) × P i
-
--- A pair of numbers i < j below n of which P holds.
-abbrev pub Pairs : ℕ → (ℕ → ℕ → Type 0) → Type 0
-Pairs n P = Below n (λ j. Below j (λ i. P i j))
-
--- The point at place i of a list of columns and a list of rows; the point of the node at place i of a list of nodes.
-abbrev pub pointAt : List ℕ → List ℕ → ℕ → Point
-pointAt columns rows i = at (getD columns i 0) (getD rows i 0)
-
+-- The point of the node at place i of a list of nodes.
 abbrev pub nodeAt : List ℕ → List ℕ → ℕ → Point
 nodeAt p nodes i = pointOf p (getD nodes i 0)
-
--- The first n nodes of a list have their places among the placements.
-abbrev pub Placed : List ℕ → List ℕ → ℕ → Type 0
-Placed p nodes n = (i : ℕ) → i < n → 2 * getD nodes i 0 + 1 < length p
-
--- out has the columns of the first n nodes of a list, where part is 0, or their rows, where it is 1.
-pub record Gathered (p nodes : List ℕ) (n part : ℕ) (out : List ℕ) : Type 0 where
-  pub at-place : (i : ℕ) → i < n → getD out i 0 ≡ getD p (2 * getD nodes i 0 + part) 0
-
--- The first n lines from the nodes `from` to the nodes `to` have their places among the placements.
-pub record LinesPlaced (p from to : List ℕ) (n : ℕ) : Type 0 where
-  pub few : n ≤ 4097
-  pub from-long : n ≤ length from
-  pub to-long : n ≤ length to
-  pub from-placed : Placed p from n
-  pub to-placed : Placed p to n
-
--- The first n lines, from (starts, tops) to (ends, bottoms), go down.
-pub record LinesDown (starts tops ends bottoms : List ℕ) (n : ℕ) : Type 0 where
-  pub starts-long : n ≤ length starts
-  pub tops-long : n ≤ length tops
-  pub ends-long : n ≤ length ends
-  pub bottoms-long : n ≤ length bottoms
-  pub down : (i : ℕ) → i < n → getD tops i 0 < getD bottoms i 0
 
 -- The table is accepted, and the first n numbers of list are its chain.
 pub record Nodes (t : List ℕ) (n : ℕ) (list : List ℕ) : Type 0 where
@@ -60,22 +28,43 @@ pub record Nodes (t : List ℕ) (n : ℕ) (list : List ℕ) : Type 0 where
   pub long : n ≤ length list
   pub listed : take n list ≡ chain t
 
--- up has the parent of each child.
-abbrev pub Parents : List ℕ → List ℕ → Type 0
-Parents t up = (k c : ℕ) (s : Side) → Line t k s c → getD up c 0 ≡ k
+-- up has the parent of each child, and 0 for the root.
+pub record Parents (t up : List ℕ) : Type 0 where
+  pub parent : (k c : ℕ) (s : Side) → Line t k s c → getD up c 0 ≡ k
+  pub root : rootOf t ≢ 0 → getD up (rootOf t) 0 ≡ 0
 
--- The numbers of a list but r.
-unfoldable pub without : ℕ → List ℕ → List ℕ
-without r [] = []
-without r (k ∷ ks) = cond (eqb k r) (without r ks) (k ∷ without r ks)
+-- What is above c: its parent, or c itself where there is none.
+abbrev pub above : List ℕ → ℕ → ℕ
+above up c = cond (eqb (getD up c 0) 0) c (getD up c 0)
 
--- The first n numbers of `to` are the nodes but the root, in the order of the chain, and those of `from` their parents.
-pub record Listed (t : List ℕ) (n : ℕ) (from to : List ℕ) : Type 0 where
-  pub few : n ≤ 4097
-  pub from-long : n ≤ length from
-  pub to-long : n ≤ length to
-  pub children : take n to ≡ without (rootOf t) (chain t)
-  pub parents : (i k : ℕ) (s : Side) → i < n → Line t k s (getD to i 0) → getD from i 0 ≡ k
+-- The first n nodes of a list, and what is above each, have their places among the placements.
+pub record Packable (p nodes : List ℕ) (n : ℕ) (up : List ℕ) : Type 0 where
+  pub long : n ≤ length nodes
+  pub fits : (i : ℕ) → i < n → getD nodes i 0 < length up
+  pub placed : (i : ℕ) → i < n → 2 * getD nodes i 0 + 1 < length p
+  pub placed-above : (i : ℕ) → i < n → 2 * above up (getD nodes i 0) + 1 < length p
+
+-- The first n lines go to these nodes, from what is above each.
+pub record Packed (p nodes : List ℕ) (n : ℕ) (up l : List ℕ) : Type 0 where
+  pub starts : (i : ℕ) → i < n → startOf (getD l i 0) ≡ pointOf p (above up (getD nodes i 0))
+  pub ends : (i : ℕ) → i < n → endOf (getD l i 0) ≡ nodeAt p nodes i
+
+-- The first n lines go to the first n nodes of a list: to a child from its parent, to the root from itself.
+pub record Listed (t p : List ℕ) (n : ℕ) (nodes l : List ℕ) : Type 0 where
+  pub ends : (i : ℕ) → i < n → endOf (getD l i 0) ≡ nodeAt p nodes i
+  pub from-parent : (i k : ℕ) (s : Side) → i < n → Line t k s (getD nodes i 0) → startOf (getD l i 0) ≡ pointOf p k
+  pub from-itself : (i : ℕ) → i < n → getD nodes i 0 ≡ rootOf t → startOf (getD l i 0) ≡ nodeAt p nodes i
+
+-- 22, of one line: it goes from one point to another, and not down
+abbrev pub Rises : ℕ → Type 0
+Rises k = (endOf k .row ≤ startOf k .row) × (first k ≢ last k)
+
+-- 21 to 23, of the first n lines
+abbrev pub lineConditions : ℕ → List ℕ → List Condition
+lineConditions n l =
+    numbered 21 (Pairs n (λ i j. last (getD l i 0) ≡ last (getD l j 0))) ∷
+    numbered 22 (Below n (λ i. Rises (getD l i 0))) ∷
+    numbered 23 (Pairs n (λ i j. Clash (startOf (getD l i 0)) (endOf (getD l i 0)) (startOf (getD l j 0)) (endOf (getD l j 0)))) ∷ []
 
 -- Record k and its links are records, and all records have their places among the placements.
 pub record Placeable (t p : List ℕ) (k : ℕ) : Type 0 where

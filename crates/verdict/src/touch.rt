@@ -1,25 +1,38 @@
-// Conditions 22 and 23 over listed lines: one that does not go down, two that share a point which does not end both.
-use crate::points::gather;
-use crate::points::point;
-use crate::points::wide;
-use segment::Point;
-use segment::clash;
+// Conditions 21 to 23 over lines as numbers: two that end at one point, one that does not go down, two that share a point which does not end both.
+use sort::sort;
+use sweep::line::HALF;
+use sweep::line::end;
+use sweep::line::start;
+use sweep::meeting::Meeting;
+use sweep::same_end;
+use sweep::worst_meeting;
 ghost use mathlib.Core.Logic.{_↔_};
-ghost use Prim.Native.Nat.{ℕ, _+_, _≤_, _<_};
+ghost use Prim.Native.Nat.{_≤_};
 ghost use lib.Dec.{T};
-ghost use Rattle.segment.specs.Segment.{Clash};
-ghost use Rattle.verdict.specs.Steps.{Below, Pairs, pointAt, nodeAt, LinesPlaced, LinesDown};
+ghost use lib.ListN.{length, getD};
+ghost use Rattle.sort.specs.Order.{Below};
+ghost use Rattle.verdict.specs.Verdict.{FirstOf};
+ghost use Rattle.verdict.specs.Steps.{Rises, lineConditions};
 
-// 22: does a line not go down?
-pub fn rises(placements: &[u16], from: &[u16], to: &[u16], n: usize) -> bool
-    requires { ⌜ LinesPlaced (now placements) (now from) (now to) n ⌝ }
-    ensures { λ r. ⌜ T r ↔ Below n (λ i. nodeAt (now (placements .entry)) (now (to .entry)) i .row ≤ nodeAt (now (placements .entry)) (now (from .entry)) i .row) ⌝ }
+// Does a line between two points not go down?
+fn rises_at(k: u64) -> bool
+    ensures { λ r. ⌜ T r ↔ Rises k ⌝ }
+{
+    let p = start(k);
+    let q = end(k);
+    if p.row < q.row {
+        return false;
+    }
+    k % HALF != k / HALF
+}
+
+// Does one of the lines not go down?
+fn rises(lines: &[u64]) -> bool
+    ensures { λ r. ⌜ T r ↔ Below (length (now (lines .entry))) (λ i. Rises (getD (now (lines .entry)) i 0)) ⌝ }
 {
     let mut i = 0;
-    while i < n {
-        let top = point(placements, wide(from[i]));
-        let bottom = point(placements, wide(to[i]));
-        if bottom.row <= top.row {
+    while i < lines.len() {
+        if rises_at(lines[i]) {
             return true;
         }
         i += 1;
@@ -27,90 +40,29 @@ pub fn rises(placements: &[u16], from: &[u16], to: &[u16], n: usize) -> bool
     false
 }
 
-// Does the line from p to q clash with line i?
-fn clash_at(
-    p: Point,
-    q: Point,
-    starts: &[u16],
-    tops: &[u16],
-    ends: &[u16],
-    bottoms: &[u16],
-    i: usize,
-) -> bool
-    requires { ⌜ p .row < q .row ⌝ }
-    requires { ⌜ LinesDown (now starts) (now tops) (now ends) (now bottoms) (i + 1) ⌝ }
-    ensures { λ r. ⌜ T r ↔ Clash p q (pointAt (now (starts .entry)) (now (tops .entry)) i) (pointAt (now (ends .entry)) (now (bottoms .entry)) i) ⌝ }
+// 21 to 23: the first that holds, or 0.
+fn judge_lines(lines: &mut [u64], scratch: &mut [u64]) -> u16
+    requires { ⌜ (length (now lines) ≤ 4097) × (length (now lines) ≤ length (now scratch)) ⌝ }
+    ensures { λ r. ⌜ FirstOf (lineConditions (length (now (lines .entry))) (now (lines .entry))) r ⌝ }
 {
-    let top = tops[i];
-    if q.row < top {
-        return false;
+    sort(lines, scratch, 32);
+    if same_end(lines) {
+        return 21;
     }
-    let bottom = bottoms[i];
-    if bottom < p.row {
-        return false;
+    if rises(lines) {
+        return 22;
     }
-    let r = Point {
-        column: starts[i],
-        row: top,
-    };
-    let s = Point {
-        column: ends[i],
-        row: bottom,
-    };
-    clash(p, q, r, s)
+    let worst = worst_meeting(lines, scratch);
+    match worst {
+        Meeting::Apart => 0,
+        Meeting::Clashing => 23,
+    }
 }
 
-// Does line j clash with one before it?
-fn clash_before(starts: &[u16], tops: &[u16], ends: &[u16], bottoms: &[u16], j: usize) -> bool
-    requires { ⌜ LinesDown (now starts) (now tops) (now ends) (now bottoms) (j + 1) ⌝ }
-    ensures { λ r. ⌜ T r ↔ Below j (λ i. Clash (pointAt (now (starts .entry)) (now (tops .entry)) j) (pointAt (now (ends .entry)) (now (bottoms .entry)) j) (pointAt (now (starts .entry)) (now (tops .entry)) i) (pointAt (now (ends .entry)) (now (bottoms .entry)) i)) ⌝ }
+// The same, of the first n lines.
+pub fn judge_first(lines: &mut [u64], scratch: &mut [u64], n: usize) -> u16
+    requires { ⌜ (n ≤ 4097) × (n ≤ length (now lines)) × (n ≤ length (now scratch)) ⌝ }
+    ensures { λ r. ⌜ FirstOf (lineConditions n (now (lines .entry))) r ⌝ }
 {
-    let p = Point {
-        column: starts[j],
-        row: tops[j],
-    };
-    let q = Point {
-        column: ends[j],
-        row: bottoms[j],
-    };
-    let mut i = 0;
-    while i < j {
-        if clash_at(p, q, starts, tops, ends, bottoms, i) {
-            return true;
-        }
-        i += 1;
-    }
-    false
-}
-
-// Do two of the first n lines clash?
-fn clash_any(starts: &[u16], tops: &[u16], ends: &[u16], bottoms: &[u16], n: usize) -> bool
-    requires { ⌜ LinesDown (now starts) (now tops) (now ends) (now bottoms) n ⌝ }
-    ensures { λ r. ⌜ T r ↔ Pairs n (λ i j. Clash (pointAt (now (starts .entry)) (now (tops .entry)) j) (pointAt (now (ends .entry)) (now (bottoms .entry)) j) (pointAt (now (starts .entry)) (now (tops .entry)) i) (pointAt (now (ends .entry)) (now (bottoms .entry)) i)) ⌝ }
-{
-    let mut j = 0;
-    while j < n {
-        if clash_before(starts, tops, ends, bottoms, j) {
-            return true;
-        }
-        j += 1;
-    }
-    false
-}
-
-// 23: do two lines clash?
-pub fn touches(placements: &[u16], from: &[u16], to: &[u16], n: usize) -> bool
-    requires { ⌜ LinesPlaced (now placements) (now from) (now to) n ⌝ }
-    requires { ⌜ ((i : ℕ) → i < n → nodeAt (now placements) (now from) i .row < nodeAt (now placements) (now to) i .row) ⌝ }
-    ensures { λ r. ⌜ T r ↔ Pairs n (λ i j. Clash (nodeAt (now (placements .entry)) (now (from .entry)) j) (nodeAt (now (placements .entry)) (now (to .entry)) j) (nodeAt (now (placements .entry)) (now (from .entry)) i) (nodeAt (now (placements .entry)) (now (to .entry)) i)) ⌝ }
-{
-    let mut starts = [0u16; 4097];
-    let mut tops = [0u16; 4097];
-    let mut ends = [0u16; 4097];
-    let mut bottoms = [0u16; 4097];
-    gather(placements, from, n, 0, &mut starts);
-    gather(placements, from, n, 1, &mut tops);
-    gather(placements, to, n, 0, &mut ends);
-    gather(placements, to, n, 1, &mut bottoms);
-    clash_any(&starts, &tops, &ends, &bottoms, n)
+    judge_lines(&mut lines[..n], scratch)
 }

@@ -27,23 +27,26 @@ returns-2 c =
 slice-aggregate-plan-of : tie.Need-slice-aggregate-plan-of
 slice-aggregate-plan-of c = search needs
 
+slice-aggregate-plan-of-2 : tie.Need-slice-aggregate-plan-of-2
+slice-aggregate-plan-of-2 c = search needs
+
 plan-of-requires : tie.Need-plan-of-requires
 plan-of-requires c κs =
-    let test1 = c .before .before .before .before in
+    let test1 = c .before .before .before .before .before in
     let reading = test1 .before .before .before .before in
     let e = test1 .if1 .left in
     let ok = read-accepted _ _ _ _ _ (reading .read .ensures) e in
     let l = reading .read .ensures .accepted e in
-    (ok .0, (some-root _ (ok .0) _ (l .nodes) (c .before .before .if2 .left), (sizes-listed _ _ _ _ l (reading .read .kept .1 .1 .1 .0), (ok .1, l .nodes))))
+    (ok .0, (some-root _ (ok .0) _ (l .nodes) (c .before .before .before .if2 .left), (sizes-listed _ _ _ _ l (reading .read .kept .1 .1 .1 .0), (reading .read .kept .1 .1 .0, (ok .1, l .nodes)))))
 
 same-length : tie.Need-same-length
 same-length c = search needs
 
 returns-3 : tie.Need-returns-3
 returns-3 c =
-    let test1 = c .before .before .before .before .before .before .before in
+    let test1 = c .before .before .before .before .before .before .before .before .before in
     let reading = test1 .before .before .before .before in
-    plan-answered _ _ _ _ (sym (reading .read .ensures .refusal) ∙ test1 .if1 .left) (c .before .before .plan-of .ensures)
+    plan-answered _ _ _ _ (sym (reading .read .ensures .refusal) ∙ test1 .if1 .left) (c .before .before .before .plan-of .ensures)
 
 pub draw-spec : {M : Type 1} → statement M
 draw-spec =
@@ -55,6 +58,7 @@ draw-spec =
     returns
     returns-2
     slice-aggregate-plan-of
+    slice-aggregate-plan-of-2
     plan-of-requires
     same-length
     returns-3)

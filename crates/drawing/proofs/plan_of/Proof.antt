@@ -1,5 +1,5 @@
 -- `plan_of` meets its contract: what is drawn from the root on is the whole drawing.
-use mathlib.Core.Path.{refl}
+use mathlib.Core.Path.{refl, _∙_}
 use Prim.Native.Nat.{_≤_}
 use native.Mathlib.Omega.{arith}
 use borrow.Author.Needs.{needs}
@@ -8,41 +8,42 @@ use Rattle.drawing.proofs.Whole.{small-plan, hanging-root, plan-drawn, 
 use Rattle.drawing.proofs.plan_of.Statement.{statement}
 use Rattle.drawing.proofs.plan_of.Tie as tie
 
-small : (c : tie.After-slice-known2) → (c .before .before .before .before .before .before .before .before .before .before .before .before .before .before .before .args .nodes ≤ 4096) × ((c .before .before .before .before .before .before .before .before .prepare .result ≤ 37) × (c .before .before .draw-left .result ≤ 4096))
+small : (c : tie.After-slice-known4) → (c .before .before .before .before .before .before .before .before .before .before .before .before .before .before .before .before .before .args .nodes ≤ 4096) × ((c .before .before .before .before .before .before .before .before .before .prepare .result ≤ 37) × (c .before .before .draw-tree .result ≤ 4096))
 small c =
-    let measured = c .before .before .before .before .before .before .before .before in
+    let measured = c .before .before .before .before .before .before .before .before .before in
     let first = measured .before .before .before in
-    let s = first .before .before .before .before in
-    small-plan _ (s .pre .0) _ (first .left .ensures .0) _ _ _ _ _ (s .pre .1 .1 .1 .1) (measured .prepare .ensures .wide) (c .before .before .draw-left .ensures)
+    let s = first .before .before .before .before .before in
+    small-plan _ (s .pre .0) _ (first .left .ensures .0) _ _ _ _ _ (s .pre .1 .1 .1 .1 .1) (measured .prepare .ensures .wide) (c .before .before .draw-tree .ensures)
 
 left-requires : tie.Need-left-requires
 left-requires c κs =
-    let s = c .before .before .before in
+    let s = c .before .before .before .before in
     records-bounds _ (s .pre .0) .0
 
 slice-aggregate-prepare : tie.Need-slice-aggregate-prepare
 slice-aggregate-prepare c = search needs
 
-slice-aggregate-prepare-2 : tie.Need-slice-aggregate-prepare-2
-slice-aggregate-prepare-2 c = search needs
-
 prepare-requires : tie.Need-prepare-requires
 prepare-requires c κs =
-    let s = c .before .before .before .before .before .before in
-    (s .pre .0, (chained-root _ _ (c .before .before .left .ensures .0) (s .pre .1 .0), (s .pre .1 .1 .0, (refl, refl))))
+    let first = c .before .before in
+    let s = first .before .before .before .before .before in
+    (s .pre .0, (chained-root _ _ (first .left .ensures .0) (s .pre .1 .0), (s .pre .1 .1 .0, (s .pre .1 .1 .1 .0, refl))))
 
-slice-aggregate-draw-left : tie.Need-slice-aggregate-draw-left
-slice-aggregate-draw-left c = search needs
+slice-aggregate-draw-tree : tie.Need-slice-aggregate-draw-tree
+slice-aggregate-draw-tree c = search needs
 
-slice-aggregate-draw-left-2 : tie.Need-slice-aggregate-draw-left-2
-slice-aggregate-draw-left-2 c = search needs
-
-draw-left-requires : tie.Need-draw-left-requires
-draw-left-requires c κs =
-    let measured = c .before .before .before .before .before in
+draw-tree-requires : tie.Need-draw-tree-requires
+draw-tree-requires c κs =
+    let measured = c .before .before .before .before .before .before in
     let first = measured .before .before .before in
-    let s = first .before .before .before .before in (
-      record { sound = s .pre .0; sized = s .pre .1 .1 .0; long-roles = measured .prepare .kept .1 .1 .0; long-gaps = measured .prepare .kept .1 .1 .1 .0; enough = s .pre .1 .1 .1 .0 },
+    let s = first .before .before .before .before .before in (
+      record {
+        sound = s .pre .0;
+        sized = s .pre .1 .1 .0;
+        long-roles = measured .prepare .kept .1 .1 .0 ∙ s .pre .1 .1 .1 .0;
+        long-gaps = measured .prepare .kept .1 .1 .1 .0;
+        enough = s .pre .1 .1 .1 .1 .0;
+      },
       hanging-root _ (s .pre .0) _ (first .left .ensures .0) _ _ (s .pre .1 .0) (measured .prepare .ensures .prepared),
     )
 
@@ -58,12 +59,15 @@ cast-t22 c = omega (arith, small c)
 same-length : tie.Need-same-length
 same-length c = search needs
 
+same-length-2 : tie.Need-same-length-2
+same-length-2 c = search needs
+
 returns : tie.Need-returns
 returns c =
-    let measured = c .before .before .before .before .before .before .before .before in
+    let measured = c .before .before .before .before .before .before .before .before .before in
     let first = measured .before .before .before in
-    let s = first .before .before .before .before in
-    plan-drawn _ _ _ _ _ _ _ (first .left .ensures .0) (s .pre .1 .1 .1 .1) (measured .prepare .ensures .wide) (c .before .before .draw-left .ensures)
+    let s = first .before .before .before .before .before in
+    plan-drawn _ _ _ _ _ _ _ (first .left .ensures .0) (s .pre .1 .1 .1 .1 .1) (measured .prepare .ensures .wide) (c .before .before .draw-tree .ensures)
 
 pub plan-of-spec : {M : Type 1} → statement M
 plan-of-spec =
@@ -71,13 +75,12 @@ plan-of-spec =
     (tie.spec
     left-requires
     slice-aggregate-prepare
-    slice-aggregate-prepare-2
     prepare-requires
-    slice-aggregate-draw-left
-    slice-aggregate-draw-left-2
-    draw-left-requires
+    slice-aggregate-draw-tree
+    draw-tree-requires
     cast-t20
     cast-t21
     cast-t22
     same-length
+    same-length-2
     returns)

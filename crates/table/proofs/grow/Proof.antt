@@ -1,97 +1,85 @@
--- `grow` answers whether cause 5 does not hold, and then fills the sizes.
+-- `grow` answers whether cause 5 does not hold, and then lists the nodes.
 use mathlib.Core.Path.{_≡_, sym, _∙_}
 use mathlib.Core.Bool.{true}
 use native.Mathlib.Omega.{arith}
 use borrow.Author.Tests.{not-true, not-false}
-use lib.ListN.{length-set}
 use Rattle.table.specs.Lists.{member}
 use Rattle.table.specs.Table.{chain as chainOf}
 use Rattle.table.specs.Steps.{Rooted}
 use Rattle.table.proofs.Causes.{sound-within}
 use Rattle.table.proofs.Lists.{T-true}
-use Rattle.table.proofs.Rooting.{rootless, grown-bad, grown, marked-by, unfilled, off-chain, ill-named, rooted}
+use Rattle.table.proofs.Rooting.{rootless, grown-bad, grown, marked-by, off-chain, ill-named, rooted}
 use borrow.Author.Needs.{needs}
 use Rattle.table.proofs.grow.Statement.{statement}
 use Rattle.table.proofs.grow.Tie as tie
 
-slice-write-sizes : tie.Need-slice-write-sizes
-slice-write-sizes c = search needs
-
 left-requires : tie.Need-left-requires
 left-requires c κs = search needs
-
-same-length : tie.Need-same-length
-same-length c = search needs
 
 returns : tie.Need-returns
 returns c =
     let s = c .before .before .before .before .before .before in
-    rootless _ _ _ _ (s .pre .0) (sym (c .before .left .ensures .0) ∙ c .if1 .taken) (unfilled _ (s .args .sizes .now) (s .pre .1 .1 .1))
+    rootless _ _ _ _ (s .pre .0) (sym (c .before .left .ensures .0) ∙ c .if1 .taken)
 
 marked-requires : tie.Need-marked-requires
 marked-requires c κs = search needs
 
-same-length-2 : tie.Need-same-length-2
-same-length-2 c = search needs
-
 returns-2 : tie.Need-returns-2
 returns-2 c =
     let s = c .before .before .before .before .before .before .before .before in
-    grown-bad _ _ (off-chain _ _ (c .before .before .before .left .ensures .0) (c .before .before .if1 .left) (sym (marked-by _ _ _ _ (s .pre .1 .0) (c .before .marked .ensures)) ∙ not-true _ (c .if2 .taken)))
+    grown-bad _ _ _ (off-chain _ _ (c .before .before .before .left .ensures .0) (c .before .before .if1 .left) (sym (marked-by _ _ _ _ (c .before .before .if1 .left) (s .pre .1 .0) (c .before .marked .ensures)) ∙ not-true _ (c .if2 .taken)))
 
 -- Past the second test the root is on the chain, and past the third no node is named wrongly.
 on-chain : (c : tie.Else2) → member (c .before .before .before .left .result) (chainOf (c .before .before .before .before .before .before .before .before .args .table .now)) ≡ true
-on-chain c = sym (marked-by _ _ _ _ (c .before .before .before .before .before .before .before .before .pre .1 .0) (c .before .marked .ensures)) ∙ not-false _ (c .if2 .left)
+on-chain c = sym (marked-by _ _ _ _ (c .before .before .if1 .left) (c .before .before .before .before .before .before .before .before .pre .1 .0) (c .before .marked .ensures)) ∙ not-false _ (c .if2 .left)
 
-well-rooted : (c : tie.Else3) → Rooted (c .before .before .before .before .before .before .before .before .before .before .args .table .now)
+well-rooted : (c : tie.Else3) → Rooted (c .before .before .before .before .before .before .before .before .before .before .before .args .table .now)
 well-rooted c =
-    let m = c .before .before in
+    let m = c .before .before .before in
     let s = m .before .before .before .before .before .before .before .before in
     rooted _ _ (m .before .before .before .left .ensures .0) (m .before .before .if1 .left) (on-chain m) (sym (c .before .misnamed .ensures) ∙ c .if3 .left) (s .pre .0 .shaped) (s .pre .0 .sound) (s .pre .1 .1 .0)
 
 misnamed-requires : tie.Need-misnamed-requires
 misnamed-requires c κs =
-    let s = c .before .before .before .before .before .before .before .before in
-    let h = sound-within _ (s .pre .0 .sound) (c .before .before .before .left .result) (T-true _ .1 (on-chain c)) in
-    (s .pre .0, (s .pre .1 .1 .0, (c .before .before .before .left .ensures .0, omega (arith, h, s .pre .0 .shaped .room))))
+    let m = c .before in
+    let s = m .before .before .before .before .before .before .before .before in
+    let h = sound-within _ (s .pre .0 .sound) (m .before .before .before .left .result) (T-true _ .1 (on-chain m)) in
+    (s .pre .0, (m .before .before .before .left .ensures .0, (omega (arith, h, s .pre .0 .shaped .room), s .pre .1 .1 .1)))
 
-same-length-3 : tie.Need-same-length-3
-same-length-3 c = search needs
+same-length : tie.Need-same-length
+same-length c = search needs
 
 returns-3 : tie.Need-returns-3
 returns-3 c =
-    let m = c .before .before in
-    grown-bad _ _ (ill-named _ _ (m .before .before .before .left .ensures .0) (m .before .before .if1 .left) (sym (c .before .misnamed .ensures) ∙ c .if3 .taken))
+    let m = c .before .before .before in
+    grown-bad _ _ _ (ill-named _ _ (m .before .before .before .left .ensures .0) (m .before .before .if1 .left) (sym (c .before .misnamed .ensures) ∙ c .if3 .taken))
 
 reaches-requires : tie.Need-reaches-requires
 reaches-requires c κs =
-    let s = c .before .before .before .before .before .before .before .before .before .before .before in
-    (well-rooted (c .before), (s .pre .0 .nodes, unfilled _ (s .args .sizes .now) (s .pre .1 .1 .1)))
+    let s = c .before .before .before .before .before .before .before .before .before .before .before .before in
+    (well-rooted (c .before), (s .pre .0 .nodes, s .pre .1 .1 .1 .long))
 
-same-length-4 : tie.Need-same-length-4
-same-length-4 c = c .before .before .reaches .kept .1 .1 .0 ∙ simp length-set
+same-length-2 : tie.Need-same-length-2
+same-length-2 c = search needs
 
 returns-4 : tie.Need-returns-4
 returns-4 c =
-    let q = c .before .before in
-    let m = q .before .before .before .before in
-    grown _ _ (m .before .before .before .left .ensures .0) (m .before .before .if1 .left) (on-chain m) (sym (q .before .before .before .misnamed .ensures) ∙ q .before .before .if3 .left) _ _
-    (q .reaches .ensures .0) (q .reaches .ensures .1)
+    let named = c .before .before .before .before .before in
+    let m = named .before .before in
+    grown _ _ (m .before .before .before .left .ensures .0) (m .before .before .if1 .left) (on-chain m) (sym (named .misnamed .ensures) ∙ c .before .before .before .before .if3 .left) _ _ _
+    (c .before .before .reaches .ensures .0) (c .before .before .reaches .ensures .1)
 
 pub grow-spec : {M : Type 1} → statement M
 grow-spec =
     tie.close
     (tie.spec
-    slice-write-sizes
     left-requires
-    same-length
     returns
     marked-requires
-    same-length-2
     returns-2
     misnamed-requires
-    same-length-3
+    same-length
     returns-3
     reaches-requires
-    same-length-4
+    same-length-2
     returns-4)

@@ -1,76 +1,55 @@
 -- `measure::roles::role_after` meets its contract. Rests on Choices.
+use mathlib.Core.Path.{sym, ap, _∙_}
 use borrow.Author.Needs.{needs}
-use mathlib.Core.Path.{refl}
-use Rattle.measure.specs.declared.roles.Role.the-variants.{LeftKnee, OrdinaryLeft, SwitchRight, RightKnee, OrdinaryRight, SwitchLeft}
-use Rattle.measure.proofs.Choices.{follows}
+use Rattle.table.specs.Table.{left, right}
+use Rattle.measure.specs.Forked.{sideOf}
+use Rattle.measure.proofs.Choices.{follows-switch, follows-run}
 use Rattle.measure.proofs.roles.role_after.Statement.{statement}
 use Rattle.measure.proofs.roles.role_after.Tie as tie
 
-enum-told : tie.Need-enum-told
-enum-told c = search needs
+is-switch-requires : tie.Need-is-switch-requires
+is-switch-requires c κs = search needs
 
-left-run-requires : tie.Need-left-run-requires
-left-run-requires c κs = search needs
+is-right-requires : tie.Need-is-right-requires
+is-right-requires c κs = search needs
 
-enum-told-2 : tie.Need-enum-told-2
-enum-told-2 c = search needs
+knee-on-requires : tie.Need-knee-on-requires
+knee-on-requires c κs = search needs
 
-left-run-requires-2 : tie.Need-left-run-requires-2
-left-run-requires-2 c κs = search needs
+returns : tie.Need-returns
+returns c =
+    let switch = c .before .before .before in
+    follows-switch _ _ _ (c .before .is-right .result) (sym (switch .is-switch .ensures) ∙ c .before .before .if1 .taken) (c .before .is-right .ensures) (c .knee-on .ensures)
 
-enum-told-3 : tie.Need-enum-told-3
-enum-told-3 c = search needs
-
-enum-told-4 : tie.Need-enum-told-4
-enum-told-4 c = search needs
+is-right-requires-2 : tie.Need-is-right-requires-2
+is-right-requires-2 c κs = search needs
 
 right-run-requires : tie.Need-right-run-requires
 right-run-requires c κs = search needs
 
-enum-told-5 : tie.Need-enum-told-5
-enum-told-5 c = search needs
-
-right-run-requires-2 : tie.Need-right-run-requires-2
-right-run-requires-2 c κs = search needs
-
-enum-told-6 : tie.Need-enum-told-6
-enum-told-6 c = search needs
-
-returns : tie.Need-returns
-returns c = follows LeftKnee _ _ _ (c .before .enum-told .given .1) (c .left-run .ensures)
-
 returns-2 : tie.Need-returns-2
-returns-2 c = follows OrdinaryLeft _ _ _ (c .before .enum-told2 .given .1) (c .left-run2 .ensures)
+returns-2 c =
+    let hand = c .before .before in
+    follows-run _ _ _ right (sym (hand .before .before .is-switch .ensures) ∙ hand .before .if1 .left) (sym (ap sideOf (c .before .if2 .taken)) ∙ hand .is-right2 .ensures) (c .right-run .ensures)
+
+left-run-requires : tie.Need-left-run-requires
+left-run-requires c κs = search needs
 
 returns-3 : tie.Need-returns-3
-returns-3 c = follows SwitchRight _ _ _ (c .enum-told3 .given .1) refl
-
-returns-4 : tie.Need-returns-4
-returns-4 c = follows RightKnee _ _ _ (c .before .enum-told4 .given .1) (c .right-run .ensures)
-
-returns-5 : tie.Need-returns-5
-returns-5 c = follows OrdinaryRight _ _ _ (c .before .enum-told5 .given .1) (c .right-run2 .ensures)
-
-returns-6 : tie.Need-returns-6
-returns-6 c = follows SwitchLeft _ _ _ (c .enum-told6 .given .1) refl
+returns-3 c =
+    let hand = c .before .before in
+    follows-run _ _ _ left (sym (hand .before .before .is-switch .ensures) ∙ hand .before .if1 .left) (sym (ap sideOf (c .before .if2 .left)) ∙ hand .is-right2 .ensures) (c .left-run .ensures)
 
 pub role-after-spec : {M : Type 1} → statement M
 role-after-spec =
     tie.close
     (tie.spec
-    enum-told
-    left-run-requires
-    enum-told-2
-    left-run-requires-2
-    enum-told-3
-    enum-told-4
-    right-run-requires
-    enum-told-5
-    right-run-requires-2
-    enum-told-6
+    is-switch-requires
+    is-right-requires
+    knee-on-requires
     returns
+    is-right-requires-2
+    right-run-requires
     returns-2
-    returns-3
-    returns-4
-    returns-5
-    returns-6)
+    left-run-requires
+    returns-3)

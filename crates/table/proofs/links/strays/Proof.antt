@@ -37,27 +37,27 @@ cast-k c = omega (arith, c .shared-slice-known4 .given (c .before .before .loop 
 left-requires : tie.Need-left-requires Inv-loop μ-loop
 left-requires c κs = listed-inside _ _ _ (c .before .before .before .before .before .before .pre .0) _ (c .before .loop-test .taken)
 
-stray-requires : tie.Need-stray-requires Inv-loop μ-loop
-stray-requires c κs = search needs
+marked-requires : tie.Need-marked-requires Inv-loop μ-loop
+marked-requires c κs = search needs
 
 returns : tie.Need-returns Inv-loop μ-loop
 unfolding badLinks
 returns c =
     let s = c .before .before .before .before .before .before .before .before .before in
-    let e : stray (s .args .table .now) _ ≡ true = stray-by _ _ _ (s .pre .0) _ (s .pre .1) _ _ _ _ (c .if1 .taken) (c .before .stray .ensures) (c .before .before .left .ensures .0) in
+    let e : stray (s .args .table .now) _ ≡ true = stray-by _ _ _ (s .pre .0) _ (s .pre .1) _ _ _ _ (c .if1 .taken) (c .before .marked .ensures) (c .before .before .left .ensures .0) in
     sym (scan-hit _ _ _ (s .pre .0) (strayed (s .args .table .now)) _ (c .before .before .before .before .loop-test .taken) (rw e))
 
 right-requires : tie.Need-right-requires Inv-loop μ-loop
 right-requires c κs = listed-inside _ _ _ (c .before .before .before .before .before .before .before .before .before .pre .0) _ (c .before .before .before .before .loop-test .taken)
 
-stray-requires-2 : tie.Need-stray-requires-2 Inv-loop μ-loop
-stray-requires-2 c κs = search needs
+marked-requires-2 : tie.Need-marked-requires-2 Inv-loop μ-loop
+marked-requires-2 c κs = search needs
 
 returns-2 : tie.Need-returns-2 Inv-loop μ-loop
 unfolding badLinks
 returns-2 c =
     let s = c .before .before .before .before .before .before .before .before .before .before .before .before in
-    let e : stray (s .args .table .now) _ ≡ true = stray-by _ _ _ (s .pre .0) _ (s .pre .1) _ _ _ _ (c .if2 .taken) (c .before .stray2 .ensures) (c .before .before .right .ensures .0) in
+    let e : stray (s .args .table .now) _ ≡ true = stray-by _ _ _ (s .pre .0) _ (s .pre .1) _ _ _ _ (c .if2 .taken) (c .before .marked2 .ensures) (c .before .before .right .ensures .0) in
     sym (scan-hit _ _ _ (s .pre .0) (strayed (s .args .table .now)) _ (c .before .before .before .before .before .before .before .loop-test .taken) (rw (e, or-true)))
 
 add-i : tie.Need-add-i Inv-loop μ-loop
@@ -70,8 +70,8 @@ loop-again : tie.Need-loop-again Inv-loop μ-loop
 loop-again c =
     let s = c .before .before .before .before .before .before .before .before .before .before .before .before in
     let t = s .args .table .now in
-    let d : stray t _ ≡ false = stray-by _ _ _ (s .pre .0) _ (s .pre .1) _ _ _ _ (c .before .before .before .if1 .left) (c .before .before .before .before .stray .ensures) (c .before .before .before .before .before .left .ensures .0) in
-    let e : stray t _ ≡ false = stray-by _ _ _ (s .pre .0) _ (s .pre .1) _ _ _ _ (c .if2 .left) (c .before .stray2 .ensures) (c .before .before .right .ensures .0) in
+    let d : stray t _ ≡ false = stray-by _ _ _ (s .pre .0) _ (s .pre .1) _ _ _ _ (c .before .before .before .if1 .left) (c .before .before .before .before .marked .ensures) (c .before .before .before .before .before .left .ensures .0) in
+    let e : stray t _ ≡ false = stray-by _ _ _ (s .pre .0) _ (s .pre .1) _ _ _ _ (c .if2 .left) (c .before .marked2 .ensures) (c .before .before .right .ensures .0) in
     (omega arith, below-more _ _ (c .before .before .before .before .before .before .before .before .loop .inv .1) (rw (d, e)))
 
 returns-3 : tie.Need-returns-3 Inv-loop μ-loop
@@ -91,10 +91,10 @@ strays-spec =
     shared-slice-read-k
     cast-k
     left-requires
-    stray-requires
+    marked-requires
     returns
     right-requires
-    stray-requires-2
+    marked-requires-2
     returns-2
     add-i
     loop-less

@@ -17,8 +17,8 @@ use Rattle.table.proofs.naming.some_not_once.Tie as tie
 abbrev notOnceAt : List ℕ → ℕ → Bool
 notOnceAt t k = not (eqb k (rootOf t)) && not (eqb (named t k) 1)
 
-not-once-by : (t tally : List ℕ) (root k : ℕ) (r b : Bool) → Tallied t tally → root ≡ rootOf t → r ≡ not (eqb k root) && not (eqb (getD tally k 0) 1) → r ≡ b → notOnceAt t k ≡ b
-not-once-by t tally root k r b l e f g = rw (← (l .tallies k), ← e) (sym f ∙ g)
+not-once-by : (t tally : List ℕ) (root k : ℕ) (r b : Bool) → k < 4097 → Tallied t tally → root ≡ rootOf t → r ≡ not (eqb k root) && not (eqb (getD tally k 0) 1) → r ≡ b → notOnceAt t k ≡ b
+not-once-by t tally root k r b h l e f g = rw (← (l .tallies k h), ← e) (sym f ∙ g)
 
 abbrev Inv-loop : tie.InvT-loop
 Inv-loop table chain nodes tally root i₀ i = (i ≤ nodes) × ((j : ℕ) → j < i → notOnceAt table (getD chain j 0) ≡ false)
@@ -49,7 +49,7 @@ returns c =
     let s = c .before .before .before .before .before .before .before .before in
     sym
     (scan-hit _ _ _ (s .pre .0) (notOnceAt (s .args .table .now)) _ (c .before .before .before .loop-test .taken)
-    (not-once-by _ _ _ _ _ _ (s .pre .1 .0) (s .pre .1 .1) (c .before .not-once .ensures) (c .if1 .taken)))
+    (not-once-by _ _ _ _ _ _ (omega (arith, listed-inside _ _ _ (s .pre .0) _ (c .before .before .before .loop-test .taken), s .pre .0 .shaped .room)) (s .pre .1 .0) (s .pre .1 .1) (c .before .not-once .ensures) (c .if1 .taken)))
 
 add-i : tie.Need-add-i Inv-loop μ-loop
 add-i c = omega arith
@@ -61,7 +61,7 @@ loop-again : tie.Need-loop-again Inv-loop μ-loop
 loop-again c =
     let s = c .before .before .before .before .before .before .before .before in (
       omega arith,
-      below-more _ _ (c .before .before .before .before .loop .inv .1) (not-once-by _ _ _ _ _ _ (s .pre .1 .0) (s .pre .1 .1) (c .before .not-once .ensures) (c .if1 .left)),
+      below-more _ _ (c .before .before .before .before .loop .inv .1) (not-once-by _ _ _ _ _ _ (omega (arith, listed-inside _ _ _ (s .pre .0) _ (c .before .before .before .loop-test .taken), s .pre .0 .shaped .room)) (s .pre .1 .0) (s .pre .1 .1) (c .before .not-once .ensures) (c .if1 .left)),
     )
 
 returns-2 : tie.Need-returns-2 Inv-loop μ-loop

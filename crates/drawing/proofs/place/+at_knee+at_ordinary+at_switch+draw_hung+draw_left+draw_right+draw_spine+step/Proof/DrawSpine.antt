@@ -1,31 +1,47 @@
--- `draw_spine` meets its contract. At each node what is left gives the same as all from the start, and the rest of the spine gets shorter.
-use mathlib.Core.Path.{_∙_}
+-- `draw_spine` meets its contract. The walk at the root, a knee, has all of the drawing left; at each node what is left gives the same as all from the start, and the rest of the spine gets shorter.
+use mathlib.Core.Path.{refl, _∙_}
 use Prim.Native.Nat.{ℕ}
 use native.Mathlib.Omega.{arith}
 use native.Mathlib.Nat.{pos-of-ne-zero}
 use Rattle.table.specs.Tree.{size, treeAt}
+use Rattle.measure.proofs.Forks.{named-within}
 use Rattle.drawing.proofs.Walking.{size-none, given-kept}
-use Rattle.drawing.proofs.Starting.{hanging-end, Walked, walked-start, walked-on, walked-end}
+use Rattle.drawing.proofs.Starting.{going-start, hung-start, hanging-end, Walked, walked-start, walked-on, walked-end}
 use Rattle.drawing.proofs.place.draw_spine.Reads as reads
 use Rattle.drawing.proofs.place.+at_knee+at_ordinary+at_switch+draw_hung+draw_left+draw_right+draw_spine+step.Lts-draw_spine as lts
 use Rattle.drawing.proofs.place.+at_knee+at_ordinary+at_switch+draw_hung+draw_left+draw_right+draw_spine+step.Proof.Measures.{draw-spine-claims, draw-spine-at}
 
 abbrev Inv-loop : lts.InvT-loop
-Inv-loop table sizes roles gaps placements₀ w₀ placements w = Walked table roles gaps placements₀ w₀ placements w
+Inv-loop table sizes roles gaps placements₀ root edge top mirrored gap w₀ placements w = Walked table roles gaps placements₀ w₀ placements w
 
 abbrev μ-loop : lts.MeasureT-loop
-μ-loop table sizes roles gaps placements₀ w₀ placements w = size (treeAt table (w .at))
+μ-loop table sizes roles gaps placements₀ root edge top mirrored gap w₀ placements w = size (treeAt table (w .at))
 
 module _ (t : ℕ) where
+  mul-gap : lts.Need-mul-gap (draw-spine-claims t) (draw-spine-at t) reads.Post Inv-loop μ-loop
+  mul-gap c =
+      let s = c .before .before .before .before .before in
+      omega (arith, named-within _ (s .pre .1 .0 .sound) _ (s .pre .1 .1 .0 .named))
+
+  shared-slice-read-gap : lts.Need-shared-slice-read-gap (draw-spine-claims t) (draw-spine-at t) reads.Post Inv-loop μ-loop
+  shared-slice-read-gap c =
+      let s = c .before .before .before .before .before .before in
+      omega (arith, named-within _ (s .pre .1 .0 .sound) _ (s .pre .1 .1 .0 .named), s .pre .1 .0 .long-gaps)
+
+  cast-gap : lts.Need-cast-gap (draw-spine-claims t) (draw-spine-at t) reads.Post Inv-loop μ-loop
+  cast-gap c =
+      let s = c .before .before .before .before .before .before in
+      omega (arith, c .shared-slice-known5 .given (s .args .root))
+
   loop-holds : lts.Need-loop-holds (draw-spine-claims t) (draw-spine-at t) reads.Post Inv-loop μ-loop
   loop-holds c =
-      let s = c .before .before .before .before .before in
-      walked-start _ _ _ (s .pre .1 .0 .sound) _ _ (s .pre .1 .1 .0) (s .pre .1 .1 .1 .0) (s .pre .1 .1 .1 .1)
+      let s = c .before .before .before .before .before .before in
+      walked-start _ _ _ (s .pre .1 .0 .sound) _ _ (going-start _ _ _ (s .pre .1 .0 .sound) (s .args .mirrored) _ _ _ (s .pre .1 .1 .0) (s .pre .1 .1 .1)) (s .pre .1 .1 .1) refl
 
   step-requires : lts.Need-step-requires (draw-spine-claims t) (draw-spine-at t) reads.Post Inv-loop μ-loop
   step-requires c κs =
       let head = c .before .before .before in
-      let s = head .before .before .before .before .before .before in
+      let s = head .before .before .before .before .before .before .before in
       let l = head .loop .inv in
       (omega (arith, s .pre .0, l .fewer), (given-kept _ _ _ _ _ _ (l .kept) (s .pre .1 .0), ((l .role, l .going), pos-of-ne-zero (c .before .if1 .taken))))
 
@@ -39,15 +55,15 @@ module _ (t : ℕ) where
       let head = c .before .before .before .before .before .before in
       walked-on _ _ _ _ _ _ _ _ _ (head .loop .inv) (c .before .before .step .ensures _ (head .loop .inv .going)) (c .before .before .step .kept .1 .1 .1 .1 .0)
 
-  add-top : lts.Need-add-top (draw-spine-claims t) (draw-spine-at t) reads.Post Inv-loop μ-loop
-  add-top c =
+  add-row : lts.Need-add-row (draw-spine-claims t) (draw-spine-at t) reads.Post Inv-loop μ-loop
+  add-row c =
       let head = c .before .before .before in
       omega (arith, hanging-end _ _ _ _ (c .before .if1 .left) _ (head .loop .inv .going) .rows)
 
   draw-hung-requires : lts.Need-draw-hung-requires (draw-spine-claims t) (draw-spine-at t) reads.Post Inv-loop μ-loop
   draw-hung-requires c κs =
       let head = c .before .before .before .before in
-      let s = head .before .before .before .before .before .before in
+      let s = head .before .before .before .before .before .before .before in
       let l = head .loop .inv in
       (omega (arith, s .pre .0, l .one-less, size-none (s .args .table .now)), (given-kept _ _ _ _ _ _ (l .kept) (s .pre .1 .0), hanging-end _ _ _ _ (c .before .before .if1 .left) _ (l .going)))
 
@@ -60,7 +76,9 @@ module _ (t : ℕ) where
   returns c =
       let test1 = c .before .before .before .before .before in
       let head = test1 .before .before in
-      walked-end _ _ _ _ _ _ _ _ _ (head .loop .inv) (test1 .if1 .left) (c .before .before .draw-hung .ensures)
+      let s = head .before .before .before .before .before .before .before in
+      hung-start _ _ _ (s .pre .1 .0 .sound) (s .args .mirrored) _ _ _ (s .pre .1 .1 .0) (s .pre .1 .1 .1) _ _ _
+      (walked-end _ _ _ _ _ _ _ _ _ (head .loop .inv) (test1 .if1 .left) (c .before .before .draw-hung .ensures))
 
 pub draw-spine-closed : {M : Type 1} (t : ℕ) → lts.Closed (draw-spine-claims t) (draw-spine-at t) reads.Post M
 draw-spine-closed t =
@@ -70,11 +88,14 @@ draw-spine-closed t =
     reads.Post
     Inv-loop
     μ-loop
+    (mul-gap t)
+    (shared-slice-read-gap t)
+    (cast-gap t)
     (loop-holds t)
     (step-requires t)
     (loop-less t)
     (loop-again t)
-    (add-top t)
+    (add-row t)
     (draw-hung-requires t)
     (same-length t)
     (returns t)

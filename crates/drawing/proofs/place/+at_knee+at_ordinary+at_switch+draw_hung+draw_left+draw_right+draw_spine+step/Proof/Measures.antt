@@ -33,7 +33,7 @@ use Rattle.drawing.proofs.place.greater.Reads as greater-reads
 use Rattle.drawing.proofs.place.inwards.Reads as inwards-reads
 use Rattle.drawing.proofs.place.is_far.Reads as is-far-reads
 use Rattle.drawing.proofs.place.is_knee.Reads as is-knee-reads
-use Rattle.drawing.proofs.place.is_switch.Reads as is-switch-reads
+use Rattle.measure.proofs.roles.is_switch.Reads as is-switch-reads
 use Rattle.drawing.proofs.place.onward.Reads as onward-reads
 use Rattle.measure.proofs.roles.role_at.Reads as role-at-reads
 use Rattle.drawing.proofs.place.set_point.Reads as set-point-reads
@@ -57,7 +57,7 @@ abbrev pub μ-draw-right : Measures 5 draw-right-kinds.ps ℕ
 μ-draw-right κs a = 5 * size (treeAt (a .0 .now) (a .1 .1 .1 .1 .1 .0)) + 3
 
 abbrev pub μ-draw-spine : Measures 5 draw-spine-kinds.ps ℕ
-μ-draw-spine κs a = 5 * size (treeAt (a .0 .now) (a .1 .1 .1 .1 .1 .0 .at)) + 2
+μ-draw-spine κs a = 5 * size (treeAt (a .0 .now) (a .1 .1 .1 .1 .1 .0)) + 2
 
 abbrev pub μ-step : Measures 5 step-kinds.ps ℕ
 μ-step κs a = 5 * unplaced (a .0 .now) (a .1 .1 .1 .1 .1 .0) + 1

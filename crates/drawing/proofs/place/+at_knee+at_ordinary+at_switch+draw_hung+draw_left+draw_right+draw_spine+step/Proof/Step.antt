@@ -6,8 +6,9 @@ use native.Mathlib.Omega.{arith}
 use Rattle.layout.specs.Spine.{knee, ordinary, switch}
 use Rattle.measure.specs.Roles.{roleOf}
 use Rattle.measure.proofs.Forks.{named-within}
+use Rattle.measure.proofs.Choices.{switch-is}
 use Rattle.drawing.proofs.Starting.{named-node}
-use Rattle.drawing.proofs.Walking.{knee-is, switch-is, ordinary-is, role-below, going-as, stepped-for}
+use Rattle.drawing.proofs.Walking.{knee-is, ordinary-is, role-below, going-as, stepped-for}
 use Rattle.drawing.proofs.place.step.Reads as reads
 use Rattle.drawing.proofs.place.+at_knee+at_ordinary+at_switch+draw_hung+draw_left+draw_right+draw_spine+step.Lts-step as lts
 use Rattle.drawing.proofs.place.+at_knee+at_ordinary+at_switch+draw_hung+draw_left+draw_right+draw_spine+step.Proof.Measures.{step-claims, step-at}

@@ -1,0 +1,118 @@
+-- Lines seen along an axis, and in another order: the worst meeting is the same. Rests on Grades, and on the laws of rearrangements.
+use mathlib.Core.Path.{_≡_, refl, sym, ap, _∙_, subst, subst₂}
+use mathlib.Core.Logic.{_↔_, _⊎_, inl, inr, ⊎-map, ⊎-swap, Iff·trans, Iff·symm}
+use mathlib.Core.Bool.{Bool, true, false}
+use mathlib.Core.List.{List}
+use Prim.Native.Nat.{ℕ, _+_, _≤_, _<_}
+use native.Mathlib.Decide.{ℕ-discrete}
+use native.Mathlib.Omega.{arith}
+use lib.ListN.{length, length-set, getD, set}
+use lib.Seq.{getD-set-same, getD-set-other}
+use Rattle.segment.specs.declared.Point.{Point}
+use Rattle.segment.specs.Segment.{Clash}
+use Rattle.segment.proofs.Clashing.{clash-turn, clash-turn-first}
+use Rattle.segment.proofs.Apart.{clash-flip}
+use Rattle.segment.specs.Test.{flip, number}
+use Rattle.sort.specs.Order.{Rearranged}
+use Rattle.sort.proofs.Rearranging.{turned, all-one, any-two, all-two}
+use Rattle.sweep.specs.declared.meeting.Meeting.{Meeting}
+use Rattle.sweep.specs.declared.meeting.Meeting.the-variants.{Apart, Clashing}
+use Rattle.sweep.specs.Line.{startOf, endOf, first, last, Onward}
+use Rattle.sweep.specs.Meetings.{Meets, grade, Met, NoWorse, Worst}
+use Rattle.sweep.specs.Arranged.{view, Joined, Arranged}
+use Rattle.sweep.proofs.Numbers.{number-first, number-last}
+use Rattle.sweep.proofs.Grades.{exchange, worst-at}
+
+-- ---- the loop
+
+pub record Arranging (across : Bool) (i : ℕ) (a b : List ℕ) : Type 0 where
+  pub long : length b ≡ length a
+  pub done : Arranged across i a b
+  pub rest : (j : ℕ) → i ≤ j → getD b j 0 ≡ getD a j 0
+
+pub arranging-none : (across : Bool) (a : List ℕ) → Arranging across 0 a a
+arranging-none across a = record { long = refl; done = record { line = λ i h. absurd (omega arith) }; rest = λ j h. refl }
+
+pub arranging-more : {across : Bool} {i v : ℕ} {a b : List ℕ} → i < length b → Arranging across i a b → Joined (view across (startOf (getD b i 0))) (view across (endOf (getD b i 0))) v → Arranging across (i + 1) a (set b i v)
+arranging-more {across} {i} {v} {a} {b} h l x = record {
+  long = length-set b i v ∙ l .long;
+  done = record { line = λ j k. go j k (ℕ-discrete j i) };
+  rest = λ j k. getD-set-other b i j v 0 (omega arith) ∙ l .rest j (omega arith);
+}
+  where
+    go : (j : ℕ) → j < i + 1 → Dec (j ≡ i) → Joined (view across (startOf (getD a j 0))) (view across (endOf (getD a j 0))) (getD (set b i v) j 0)
+    go j k (yes e) = rw (e, getD-set-same b i v 0 h, ← l .rest i (omega arith)) x
+    go j k (no e) = rw (getD-set-other b i j v 0 e) (l .done .line j (omega arith))
+
+pub arranging-all : {across : Bool} {i n : ℕ} {a b : List ℕ} → i ≡ n → Arranging across i a b → Arranged across n a b
+arranging-all {across} {a = a} {b} e l = subst (λ (k : ℕ). Arranged across k a b) e (l .done)
+
+-- A line packed of two points whose numbers are in order.
+pub joined-forth : {P Q : Point} {r n m : ℕ} → startOf r ≡ P → endOf r ≡ Q → n ≡ number 65536 P → m ≡ number 65536 Q → n ≤ m → Joined P Q r
+joined-forth {P} {Q} {r} p q e f h = record { ends = inl (p, q); onward = omega (arith, number-first r, number-last r, ap (number 65536) p, ap (number 65536) q) }
+
+-- A line that goes on already, and one packed anew.
+pub joined-same : (across : Bool) (k : ℕ) → across ≡ false → first k ≤ last k → Joined (view across (startOf k)) (view across (endOf k)) k
+joined-same across k e h = rw e (record { ends = inl (refl, refl); onward = h })
+
+pub joined-by : (across : Bool) (k : ℕ) {r : ℕ} {P Q R S : Point} → P ≡ startOf k → Q ≡ endOf k → R ≡ view across P → S ≡ view across Q → Joined R S r → Joined (view across (startOf k)) (view across (endOf k)) r
+joined-by across k {r} p q e f x = subst₂ (λ (X Y : Point). Joined X Y r) (e ∙ ap (view across) p) (f ∙ ap (view across) q) x
+
+pub joined-back : {P Q : Point} {r : ℕ} → Joined Q P r → Joined P Q r
+joined-back x = record { ends = ⊎-swap (x .ends); onward = x .onward }
+
+-- ---- the meeting of two lines so seen
+
+iff-meets : (m : Meeting) (P Q R S A B C D : Point) → Clash P Q R S ↔ Clash A B C D → Meets m P Q R S → Meets m A B C D
+iff-meets Apart P Q R S A B C D h x = λ c. x (h .1 c)
+iff-meets Clashing P Q R S A B C D h x = h .0 x
+
+view-clash : (across : Bool) (P Q R S : Point) → Clash (view across P) (view across Q) (view across R) (view across S) ↔ Clash P Q R S
+view-clash true P Q R S = (clash-flip (flip P) (flip Q) (flip R) (flip S), clash-flip P Q R S)
+view-clash false P Q R S = (λ c. c, λ c. c)
+
+-- The ends of a line, in one order or the other.
+abbrev Ends : ℕ → Point → Point → Type 0
+Ends x P Q = ((startOf x ≡ P) × (endOf x ≡ Q)) ⊎ ((startOf x ≡ Q) × (endOf x ≡ P))
+
+first-ends : {P Q R S : Point} (x : ℕ) → Ends x P Q → Clash (startOf x) (endOf x) R S ↔ Clash P Q R S
+first-ends x (inl (e, f)) = (λ c. rw (← e, ← f) c, λ c. rw (e, f) c)
+first-ends x (inr (e, f)) = (λ c. clash-turn-first (rw (← e, ← f) c), λ c. rw (e, f) (clash-turn-first c))
+
+second-ends : {P Q R S : Point} (y : ℕ) → Ends y R S → Clash P Q (startOf y) (endOf y) ↔ Clash P Q R S
+second-ends y (inl (e, f)) = (λ c. rw (← e, ← f) c, λ c. rw (e, f) c)
+second-ends y (inr (e, f)) = (λ c. clash-turn (rw (← e, ← f) c), λ c. rw (e, f) (clash-turn c))
+
+joined-clash : {P Q R S : Point} {x y : ℕ} → Joined P Q x → Joined R S y → Clash (startOf x) (endOf x) (startOf y) (endOf y) ↔ Clash P Q R S
+joined-clash {x = x} {y} a b = Iff·trans (first-ends x (a .ends)) (second-ends y (b .ends))
+
+-- ---- the worst meeting
+
+met-symmetric : (m : Meeting) (x y : ℕ) → Met m x y → Met m y x
+met-symmetric m x y a = exchange m (startOf x) (endOf x) (startOf y) (endOf y) a
+
+no-worse-symmetric : (m : Meeting) (x y : ℕ) → NoWorse m x y → NoWorse m y x
+no-worse-symmetric m x y n = record { no-worse = λ k a. n .no-worse k (met-symmetric k y x a) }
+
+worst-rearranged : {n : ℕ} {a b : List ℕ} {m : Meeting} → Rearranged n a b → Worst n b m → Worst n a m
+worst-rearranged {n} {a} {b} {m} r w = record {
+  found = ⊎-map (λ z. z) (any-two (Met m) (met-symmetric m) r .1) (w .found);
+  none-worse = all-two (NoWorse m) (no-worse-symmetric m) (turned r) (w .none-worse);
+}
+
+worst-arranged : {across : Bool} {n : ℕ} {a b : List ℕ} {m : Meeting} → Arranged across n a b → Worst n b m → Worst n a m
+worst-arranged {across} {n} {a} {b} {m} r w = record {
+  found = ⊎-map (λ z. z) (λ z. let p = z .2 in (z .0, z .1, (p .0, p .1, iff-meets m _ _ _ _ _ _ _ _ (same (p .0) (z .0) (omega (arith, z .1, p .1)) (z .1)) (p .2)))) (w .found);
+  none-worse = λ i j h k. record { no-worse = λ z x. w .none-worse i j h k .no-worse z (iff-meets z _ _ _ _ _ _ _ _ (Iff·symm (same i j (omega arith) k)) x) };
+}
+  where
+    same : (i j : ℕ) → i < n → j < n → Clash (startOf (getD b i 0)) (endOf (getD b i 0)) (startOf (getD b j 0)) (endOf (getD b j 0)) ↔ Clash (startOf (getD a i 0)) (endOf (getD a i 0)) (startOf (getD a j 0)) (endOf (getD a j 0))
+    same i j h k = Iff·trans (joined-clash (r .line i h) (r .line j k)) (view-clash across (startOf (getD a i 0)) (endOf (getD a i 0)) (startOf (getD a j 0)) (endOf (getD a j 0)))
+
+-- Both, with the lengths as the code has them.
+module _ {across : Bool} {n k m : ℕ} {a b c : List ℕ} (r : Arranged across n a b) (s : Rearranged k b c) (e : k ≡ n) (f : m ≡ k) where
+  pub onward-seen : Onward m c
+  onward-seen = record { onward = λ i h. all-one (λ x. first x ≤ last x) s (λ j g. r .line j (omega arith) .onward) i (omega arith) }
+
+  pub worst-seen : {w : Meeting} → Worst m c w → Worst n a w
+  worst-seen h = worst-arranged r (worst-at e (worst-rearranged s (worst-at f h)))

@@ -1,0 +1,39 @@
+-- As it is, or joined anew. Rests on Arranging.
+use borrow.Author.Tests.{not-true}
+use Rattle.sweep.proofs.Arranging.{joined-same, joined-by}
+use borrow.Author.Needs.{needs}
+use Rattle.sweep.proofs.axis.aligned.Statement.{statement}
+use Rattle.sweep.proofs.axis.aligned.Tie as tie
+
+returns : tie.Need-returns
+returns c = let s = c .before .before in joined-same (s .args .across) (s .args .k) (not-true (s .args .across) (c .before .if1 .taken)) (c .if2 .taken)
+
+start-requires : tie.Need-start-requires
+start-requires c κs = search needs
+
+seen-requires : tie.Need-seen-requires
+seen-requires c κs = search needs
+
+end-requires : tie.Need-end-requires
+end-requires c κs = search needs
+
+seen-requires-2 : tie.Need-seen-requires-2
+seen-requires-2 c κs = search needs
+
+join-requires : tie.Need-join-requires
+join-requires c κs = search needs
+
+returns-2 : tie.Need-returns-2
+returns-2 c = let s = c .before .before .before .before .before .before in joined-by (s .args .across) (s .args .k) (c .before .before .before .before .start .ensures) (c .before .before .end .ensures) (c .before .before .before .seen .ensures) (c .before .seen2 .ensures) (c .join .ensures)
+
+pub aligned-spec : {M : Type 1} → statement M
+aligned-spec =
+    tie.close
+    (tie.spec
+    returns
+    start-requires
+    seen-requires
+    end-requires
+    seen-requires-2
+    join-requires
+    returns-2)

@@ -1,0 +1,13 @@
+-- By the two cases.
+use borrow.Author.Needs.{needs}
+use Rattle.sweep.proofs.axis.seen.Statement.{statement}
+use Rattle.sweep.proofs.axis.seen.Tie as tie
+
+returns : tie.Need-returns
+returns c = rw (c .if1 .taken)
+
+returns-2 : tie.Need-returns-2
+returns-2 c = rw (c .if1 .left)
+
+pub seen-spec : {M : Type 1} → statement M
+seen-spec = tie.close (tie.spec returns returns-2)

@@ -1,0 +1,67 @@
+-- The ends that the loop has passed ascend strictly. Rests on the law of neighbours.
+use Prim.Native.Nat.{ℕ, _≤_, _<_, _-_}
+use native.Mathlib.Omega.{arith}
+use lib.ListN.{length, getD}
+use Rattle.segment.proofs.Answers.{found, none}
+use Rattle.sort.proofs.Neighbours.{next-differs}
+use Rattle.sweep.specs.Line.{last}
+use borrow.Author.Needs.{needs}
+use Rattle.sweep.proofs.same_end.Statement.{statement}
+use Rattle.sweep.proofs.same_end.Tie as tie
+
+abbrev Inv-loop : tie.InvT-loop
+Inv-loop lines i₀ i = (1 ≤ i) × ((a b : ℕ) → a < b → b < i → b < length lines → last (getD lines a 0) < last (getD lines b 0))
+
+abbrev μ-loop : tie.MeasureT-loop
+μ-loop lines i₀ i = length lines - i
+
+loop-holds : tie.Need-loop-holds Inv-loop μ-loop
+loop-holds c = (omega arith, λ a b h k l. absurd (omega arith))
+
+sub-if1 : tie.Need-sub-if1 Inv-loop μ-loop
+sub-if1 c = search needs
+
+mul-if1 : tie.Need-mul-if1 Inv-loop μ-loop
+mul-if1 c = search needs
+
+shared-slice-read-if1 : tie.Need-shared-slice-read-if1 Inv-loop μ-loop
+shared-slice-read-if1 c = search needs
+
+mul-if1-2 : tie.Need-mul-if1-2 Inv-loop μ-loop
+mul-if1-2 c = search needs
+
+shared-slice-read-if1-2 : tie.Need-shared-slice-read-if1-2 Inv-loop μ-loop
+shared-slice-read-if1-2 c = search needs
+
+returns : tie.Need-returns Inv-loop μ-loop
+returns c = let i = c .before .before .before .before .loop .i in found (i, c .before .before .before .loop-test .taken, (i - 1, omega arith, c .if1 .taken))
+
+add-i : tie.Need-add-i Inv-loop μ-loop
+add-i c = search needs
+
+loop-less : tie.Need-loop-less Inv-loop μ-loop
+loop-less c = search needs
+
+loop-again : tie.Need-loop-again Inv-loop μ-loop
+loop-again c = let l = c .before .before .before .before .loop in (omega arith, λ a b h k m. next-differs (c .before .before .before .before .before .pre) (l .i) (l .inv .0) (c .before .before .before .loop-test .taken) (λ x y g w. l .inv .1 x y g w (omega arith)) (c .if1 .left) a b h k)
+
+returns-2 : tie.Need-returns-2 Inv-loop μ-loop
+returns-2 c = none (λ z. omega (arith, c .before .loop .inv .1 (z .2 .0) (z .0) (z .2 .1) (omega (arith, z .1)) (z .1), z .2 .2))
+
+pub same-end-spec : {M : Type 1} → statement M
+same-end-spec =
+    tie.close
+    (tie.spec
+    Inv-loop
+    μ-loop
+    loop-holds
+    sub-if1
+    mul-if1
+    shared-slice-read-if1
+    mul-if1-2
+    shared-slice-read-if1-2
+    returns
+    add-i
+    loop-less
+    loop-again
+    returns-2)

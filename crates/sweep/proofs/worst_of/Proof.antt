@@ -1,0 +1,58 @@
+-- Line by line. Rests on Grades.
+use native.Mathlib.Omega.{arith}
+use Prim.Native.Nat.{_≤_, _-_}
+use lib.ListN.{length}
+use Rattle.sweep.specs.Meetings.{Worst}
+use Rattle.sweep.proofs.Grades.{worst-none, worst-more, worst-at, worst-utmost}
+use borrow.Author.Needs.{needs}
+use Rattle.sweep.proofs.worst_of.Statement.{statement}
+use Rattle.sweep.proofs.worst_of.Tie as tie
+
+abbrev Inv-loop : tie.InvT-loop
+Inv-loop lines worst₀ i₀ worst i = (i ≤ length lines) × Worst i lines worst
+
+abbrev μ-loop : tie.MeasureT-loop
+μ-loop lines worst₀ i₀ worst i = length lines - i
+
+loop-holds : tie.Need-loop-holds Inv-loop μ-loop
+loop-holds c = (omega arith, worst-none _)
+
+worst-before-requires : tie.Need-worst-before-requires Inv-loop μ-loop
+worst-before-requires c κs = search needs
+
+worse-requires : tie.Need-worse-requires Inv-loop μ-loop
+worse-requires c κs = search needs
+
+utmost-requires : tie.Need-utmost-requires Inv-loop μ-loop
+utmost-requires c κs = search needs
+
+returns : tie.Need-returns Inv-loop μ-loop
+returns c = worst-utmost (omega arith) (c .before .utmost .ensures (c .if1 .taken)) (worst-more (c .before .before .before .before .before .loop .inv .1) (c .before .before .before .worst-before .ensures) (c .before .before .worse .ensures))
+
+add-i : tie.Need-add-i Inv-loop μ-loop
+add-i c = search needs
+
+loop-less : tie.Need-loop-less Inv-loop μ-loop
+loop-less c = search needs
+
+loop-again : tie.Need-loop-again Inv-loop μ-loop
+loop-again c = (omega arith, worst-more (c .before .before .before .before .before .loop .inv .1) (c .before .before .before .worst-before .ensures) (c .before .before .worse .ensures))
+
+returns-2 : tie.Need-returns-2 Inv-loop μ-loop
+returns-2 c = worst-at (omega arith) (c .before .loop .inv .1)
+
+pub worst-of-spec : {M : Type 1} → statement M
+worst-of-spec =
+    tie.close
+    (tie.spec
+    Inv-loop
+    μ-loop
+    loop-holds
+    worst-before-requires
+    worse-requires
+    utmost-requires
+    returns
+    add-i
+    loop-less
+    loop-again
+    returns-2)

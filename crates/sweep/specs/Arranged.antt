@@ -1,0 +1,23 @@
+-- Lines seen with columns and rows exchanged or not, each with its ends in the order of their numbers.
+use mathlib.Core.Path.{_≡_}
+use mathlib.Core.Logic.{_⊎_}
+use mathlib.Core.Bool.{Bool, true, false}
+use mathlib.Core.List.{List}
+use Prim.Native.Nat.{ℕ, _≤_, _<_}
+use lib.ListN.{getD}
+use Rattle.segment.specs.declared.Point.{Point}
+use Rattle.segment.specs.Test.{flip}
+use Rattle.sweep.specs.Line.{startOf, endOf, first, last}
+
+abbrev pub view : Bool → Point → Point
+view true P = flip P
+view false P = P
+
+-- The line r has the ends P and Q, in one order or the other, and does not go back.
+pub record Joined (P Q : Point) (r : ℕ) : Type 0 where
+  pub ends : ((startOf r ≡ P) × (endOf r ≡ Q)) ⊎ ((startOf r ≡ Q) × (endOf r ≡ P))
+  pub onward : first r ≤ last r
+
+-- The first n lines of b are those of a, seen so.
+pub record Arranged (across : Bool) (n : ℕ) (a b : List ℕ) : Type 0 where
+  pub line : (i : ℕ) → i < n → Joined (view across (startOf (getD a i 0))) (view across (endOf (getD a i 0))) (getD b i 0)

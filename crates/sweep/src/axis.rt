@@ -1,0 +1,124 @@
+// Along which axis lines are sorted: by rows, or by columns where they overlap less in these (specs/Arranged).
+use crate::line::HALF;
+use crate::line::end;
+use crate::line::number;
+use crate::line::pack;
+use crate::line::start;
+use crate::line::wide;
+use segment::Point;
+use segment::least;
+use segment::most;
+ghost use mathlib.Core.Path.{_≡_};
+ghost use Prim.Native.Nat.{_+_, _≤_, _<_};
+ghost use lib.ListN.{length};
+ghost use Rattle.sweep.specs.Line.{startOf, endOf};
+ghost use Rattle.sweep.specs.Arranged.{view, Joined, Arranged};
+
+// The line between p and q, from the one with the lesser number.
+fn join(p: Point, q: Point) -> u64
+    ensures { λ r. ⌜ Joined p q r ⌝ }
+{
+    if number(p) <= number(q) {
+        return pack(p, q);
+    }
+    pack(q, p)
+}
+
+// A point, with column and row exchanged or not.
+fn seen(p: Point, across: bool) -> Point
+    ensures { λ r. ⌜ r ≡ view across p ⌝ }
+{
+    if across {
+        return Point {
+            column: p.row,
+            row: p.column,
+        };
+    }
+    p
+}
+
+// A line, with columns and rows exchanged or not, from its end with the lesser number.
+fn aligned(k: u64, across: bool) -> u64
+    ensures { λ r. ⌜ Joined (view across (startOf k)) (view across (endOf k)) r ⌝ }
+{
+    if !across {
+        if k % HALF <= k / HALF {
+            return k;
+        }
+    }
+    join(seen(start(k), across), seen(end(k), across))
+}
+
+// Every line so.
+pub fn arrange(lines: &mut [u64], across: bool)
+    ensures { λ _. ⌜ Arranged across (length (now (lines .entry))) (now (lines .entry)) (now (lines .exit)) ⌝ }
+{
+    let mut i = 0;
+    while i < lines.len() {
+        lines[i] = aligned(lines[i], across);
+        i += 1;
+    }
+}
+
+// How far lines reach along one axis: from the least place to the greatest, and in sum.
+struct Reach {
+    low: u16,
+    high: u16,
+    sum: u64,
+}
+
+// With one line more, between the places a and b.
+fn reach_more(r: Reach, a: u16, b: u16) -> Reach
+    requires { ⌜ r .sum < 4294967296 ⌝ }
+    ensures { λ z. ⌜ z .sum ≤ r .sum + 65535 ⌝ }
+{
+    let low = least(a, b);
+    let high = most(a, b);
+    Reach {
+        low: least(r.low, low),
+        high: most(r.high, high),
+        sum: r.sum + wide(high) - wide(low),
+    }
+}
+
+// How far every seventh line reaches, in rows or in columns.
+fn reach_along(lines: &[u64], across: bool) -> Reach
+    requires { ⌜ length (now lines) ≤ 4097 ⌝ }
+    ensures { λ z. ⌜ z .sum < 4294967296 ⌝ }
+{
+    let mut r = Reach {
+        low: 65535,
+        high: 0,
+        sum: 0,
+    };
+    let mut i = 0;
+    while i < lines.len() {
+        let k = lines[i];
+        let p = seen(start(k), across);
+        let q = seen(end(k), across);
+        r = reach_more(r, p.row, q.row);
+        i += 7;
+    }
+    r
+}
+
+// How many of these lie abreast, on the average, in sixteenths.
+fn abreast(r: Reach) -> u64
+    requires { ⌜ r .sum < 4294967296 ⌝ }
+{
+    if r.high < r.low {
+        return 0;
+    }
+    16 * r.sum / (wide(r.high) - wide(r.low) + 1)
+}
+
+// Do many lines, more than seven, lie abreast by rows, and fewer by columns? Either answer is right: it decides only the time.
+pub fn lie_flat(lines: &[u64]) -> bool
+    requires { ⌜ length (now lines) ≤ 4097 ⌝ }
+{
+    let rows = abreast(reach_along(lines, false));
+    if rows <= 16 {
+        return false;
+    }
+    abreast(reach_along(lines, true)) < rows
+}

@@ -1,0 +1,22 @@
+-- A table has at most 4,096 nodes. Rests on Nodes.
+use native.Mathlib.Omega.{arith}
+use Rattle.verdict.proofs.Nodes.{nodes-few}
+use borrow.Author.Needs.{needs}
+use Rattle.verdict.proofs.judge_many.Statement.{statement}
+use Rattle.verdict.proofs.judge_many.Tie as tie
+
+slice-aggregate-judge-in : tie.Need-slice-aggregate-judge-in
+slice-aggregate-judge-in c = search needs
+
+slice-aggregate-judge-in-2 : tie.Need-slice-aggregate-judge-in-2
+slice-aggregate-judge-in-2 c = search needs
+
+judge-in-requires : tie.Need-judge-in-requires
+judge-in-requires c κs = let s = c .before .before .before .before .before in let f = nodes-few (s .pre .0) in (s .pre .0, (s .pre .1, (omega arith, omega arith)))
+
+returns : tie.Need-returns
+returns c = search needs
+
+pub judge-many-spec : {M : Type 1} → statement M
+judge-many-spec =
+    tie.close (tie.spec slice-aggregate-judge-in slice-aggregate-judge-in-2 judge-in-requires returns)

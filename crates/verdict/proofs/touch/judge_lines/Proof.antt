@@ -1,0 +1,86 @@
+-- The lines are sorted, and the conditions do not depend on their order. Rests on Judged.
+use mathlib.Core.Path.{refl}
+use mathlib.Core.Logic.{inl, inr}
+use Rattle.sort.proofs.Neighbours.{ascending-length}
+use Rattle.segment.proofs.Answers.{holds, fails}
+use Rattle.verdict.proofs.Judged.{first-moved, clash-first, none-first}
+use borrow.Author.Needs.{needs}
+use Rattle.verdict.proofs.touch.judge_lines.Statement.{statement}
+use Rattle.verdict.proofs.touch.judge_lines.Tie as tie
+
+sort-requires : tie.Need-sort-requires
+sort-requires c κs = search needs
+
+same-end-requires : tie.Need-same-end-requires
+same-end-requires c κs = ascending-length (c .before .before .before .before .before .sort .kept .0) (c .before .before .before .before .before .sort .ensures .1)
+
+same-length : tie.Need-same-length
+same-length c = search needs
+
+same-length-2 : tie.Need-same-length-2
+same-length-2 c = search needs
+
+returns : tie.Need-returns
+returns c = let r = c .before .before .before .before .before .before .before .sort in first-moved (r .ensures .0) (r .kept .0) (inl (holds (c .if1 .taken) (c .before .same-end .ensures), refl))
+
+rises-requires : tie.Need-rises-requires
+rises-requires c κs = search needs
+
+same-length-3 : tie.Need-same-length-3
+same-length-3 c = search needs
+
+same-length-4 : tie.Need-same-length-4
+same-length-4 c = search needs
+
+returns-2 : tie.Need-returns-2
+returns-2 c = let r = c .before .before .before .before .before .before .before .before .before .before .sort in first-moved (r .ensures .0) (r .kept .0) (inr (fails (c .before .before .before .if1 .left) (c .before .before .before .before .same-end .ensures), inl (holds (c .if2 .taken) (c .before .rises .ensures), refl)))
+
+worst-meeting-requires : tie.Need-worst-meeting-requires
+worst-meeting-requires c κs = search needs
+
+enum-told : tie.Need-enum-told
+enum-told c = search needs
+
+enum-told-2 : tie.Need-enum-told-2
+enum-told-2 c = search needs
+
+same-length-5 : tie.Need-same-length-5
+same-length-5 c = search needs
+
+same-length-6 : tie.Need-same-length-6
+same-length-6 c = search needs
+
+returns-3 : tie.Need-returns-3
+returns-3 c = let r = c .before .before .before .before .before .before .before .before .before .before .before .before .before .before .before .before .before .before .before .sort in first-moved (r .ensures .0) (r .kept .0) (none-first (fails (c .before .before .before .before .before .before .before .before .before .before .before .before .if1 .left) (c .before .before .before .before .before .before .before .before .before .before .before .before .before .same-end .ensures)) (fails (c .before .before .before .before .before .before .before .before .before .if2 .left) (c .before .before .before .before .before .before .before .before .before .before .rises .ensures)) (c .enum-told .given .1) (c .before .before .before .before .before .before .worst-meeting .ensures))
+
+same-length-7 : tie.Need-same-length-7
+same-length-7 c = search needs
+
+same-length-8 : tie.Need-same-length-8
+same-length-8 c = search needs
+
+returns-4 : tie.Need-returns-4
+returns-4 c = let r = c .before .before .before .before .before .before .before .before .before .before .before .before .before .before .before .before .before .before .before .sort in first-moved (r .ensures .0) (r .kept .0) (clash-first (fails (c .before .before .before .before .before .before .before .before .before .before .before .before .if1 .left) (c .before .before .before .before .before .before .before .before .before .before .before .before .before .same-end .ensures)) (fails (c .before .before .before .before .before .before .before .before .before .if2 .left) (c .before .before .before .before .before .before .before .before .before .before .rises .ensures)) (c .enum-told2 .given .1) (c .before .before .before .before .before .before .worst-meeting .ensures))
+
+pub judge-lines-spec : {M : Type 1} → statement M
+judge-lines-spec =
+    tie.close
+    (tie.spec
+    sort-requires
+    same-end-requires
+    same-length
+    same-length-2
+    returns
+    rises-requires
+    same-length-3
+    same-length-4
+    returns-2
+    worst-meeting-requires
+    enum-told
+    enum-told-2
+    same-length-5
+    same-length-6
+    returns-3
+    same-length-7
+    same-length-8
+    returns-4)
