@@ -1,4 +1,4 @@
--- The ends that the loop has passed ascend strictly. Rests on the law of neighbours.
+-- `same_end`: the ends that the loop has passed ascend strictly. Rests on the law of neighbours.
 use Prim.Native.Nat.{ℕ, _≤_, _<_, _-_}
 use native.Mathlib.Omega.{arith}
 use lib.ListN.{length, getD}

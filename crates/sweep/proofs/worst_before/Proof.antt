@@ -1,4 +1,4 @@
--- From the line before it downwards. Rests on Grades.
+-- `worst_before`: from the line before it downwards. Rests on Grades.
 use native.Mathlib.Omega.{arith}
 use Prim.Native.Nat.{_≤_}
 use Rattle.sweep.specs.Meetings.{WorstFrom}

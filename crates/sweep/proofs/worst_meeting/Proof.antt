@@ -1,4 +1,4 @@
--- The lines as they are seen and sorted meet no other way. Rests on Arranging.
+-- `worst_meeting`: the lines as they are seen and sorted meet no other way. Rests on Arranging.
 use Rattle.sort.proofs.Neighbours.{ascending-length}
 use Rattle.sweep.proofs.Arranging.{onward-seen, worst-seen}
 use borrow.Author.Needs.{needs}

@@ -1,4 +1,4 @@
--- Line by line. Rests on Grades.
+-- `worst_of`: line by line. Rests on Grades.
 use native.Mathlib.Omega.{arith}
 use Prim.Native.Nat.{_≤_, _-_}
 use lib.ListN.{length}

@@ -1,4 +1,4 @@
--- A table has at most 4,096 nodes. Rests on Nodes.
+-- `judge_many`: a table has at most 4,096 nodes. Rests on Nodes.
 use native.Mathlib.Omega.{arith}
 use Rattle.verdict.proofs.Nodes.{nodes-few}
 use borrow.Author.Needs.{needs}

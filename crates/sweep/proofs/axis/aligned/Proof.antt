@@ -1,4 +1,4 @@
--- As it is, or joined anew. Rests on Arranging.
+-- `aligned`: as it is, or joined anew. Rests on Arranging.
 use borrow.Author.Tests.{not-true}
 use Rattle.sweep.proofs.Arranging.{joined-same, joined-by}
 use borrow.Author.Needs.{needs}

@@ -1,4 +1,4 @@
--- By which number is the lesser. Rests on Arranging.
+-- `join`: by which number is the lesser. Rests on Arranging.
 use native.Mathlib.Omega.{arith}
 use Rattle.sweep.proofs.Arranging.{joined-forth, joined-back}
 use borrow.Author.Needs.{needs}

@@ -1,4 +1,4 @@
--- By the two cases.
+-- `seen`: by the two cases.
 use borrow.Author.Needs.{needs}
 use Rattle.sweep.proofs.axis.seen.Statement.{statement}
 use Rattle.sweep.proofs.axis.seen.Tie as tie

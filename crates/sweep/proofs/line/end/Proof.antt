@@ -1,4 +1,4 @@
--- The bits are the coordinates.
+-- `end`: the bits are the coordinates.
 use Rattle.sweep.specs.Line.{endOf}
 use borrow.Author.Needs.{needs}
 use Rattle.sweep.proofs.line.end.Statement.{statement}

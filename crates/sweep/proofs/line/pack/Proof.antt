@@ -1,4 +1,4 @@
--- Each coordinate has its sixteen bits. Rests on Numbers.
+-- `pack`: each coordinate has its sixteen bits. Rests on Numbers.
 use Rattle.sweep.proofs.Numbers.{packed}
 use borrow.Author.Needs.{needs}
 use Rattle.sweep.proofs.line.pack.Statement.{statement}

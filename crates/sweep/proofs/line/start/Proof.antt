@@ -1,4 +1,4 @@
--- The bits are the coordinates.
+-- `start`: the bits are the coordinates.
 use Rattle.sweep.specs.Line.{startOf}
 use borrow.Author.Needs.{needs}
 use Rattle.sweep.proofs.line.start.Statement.{statement}

@@ -1,4 +1,4 @@
--- A line that is beside another is apart from it. Rests on Grades.
+-- `against`: a line that is beside another is apart from it. Rests on Grades.
 use Rattle.sweep.proofs.Grades.{beside-apart}
 use borrow.Author.Needs.{needs}
 use Rattle.sweep.proofs.meeting.against.Statement.{statement}

@@ -1,4 +1,4 @@
--- Each test is one side.
+-- `beside`: each test is one side.
 use mathlib.Core.Path.{subst}
 use Prim.Native.Nat.{ℕ, _<_}
 use mathlib.Core.Logic.{inl, inr}

@@ -1,4 +1,4 @@
--- The answer of the test is the kind.
+-- `compare`: the answer of the test is the kind.
 use Rattle.segment.proofs.Answers.{holds, fails}
 use borrow.Author.Needs.{needs}
 use Rattle.sweep.proofs.meeting.compare.Statement.{statement}

@@ -1,4 +1,4 @@
--- By the kinds.
+-- `utmost`: by the kinds.
 use mathlib.Core.Bool.{false≢true}
 use mathlib.Core.Path.{ap}
 use Rattle.sweep.specs.Meetings.{grade}

@@ -1,4 +1,4 @@
--- By the kinds. Rests on Grades.
+-- `worse`: by the kinds. Rests on Grades.
 use Rattle.sweep.proofs.Grades.{worse-apart, worse-clashing}
 use borrow.Author.Needs.{needs}
 use Rattle.sweep.proofs.meeting.worse.Statement.{statement}

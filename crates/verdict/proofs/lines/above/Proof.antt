@@ -1,4 +1,4 @@
--- By the two cases.
+-- `above`: by the two cases.
 use mathlib.Core.Path.{sym, _∙_}
 use borrow.Author.Tests.{eq-eqb, ne-eqb}
 use borrow.Author.Needs.{needs}

@@ -1,4 +1,4 @@
--- The lines to the nodes that the loop has passed. Rests on Parent.
+-- `pack_lines`: the lines to the nodes that the loop has passed. Rests on Parent.
 use native.Mathlib.Omega.{arith}
 use mathlib.Core.Path.{_≡_, refl, ap, _∙_}
 use lib.ListN.{length, length-set}

@@ -1,4 +1,4 @@
--- The first n are a list of their own. Rests on Judged.
+-- `judge_first`: the first n are a list of their own. Rests on Judged.
 use mathlib.Core.Path.{sym}
 use native.Mathlib.Omega.{arith}
 use lib.Seq.{length-take-le}

@@ -1,4 +1,4 @@
--- The lines are sorted, and the conditions do not depend on their order. Rests on Judged.
+-- `judge_lines`: the lines are sorted, and the conditions do not depend on their order. Rests on Judged.
 use mathlib.Core.Path.{refl}
 use mathlib.Core.Logic.{inl, inr}
 use Rattle.sort.proofs.Neighbours.{ascending-length}

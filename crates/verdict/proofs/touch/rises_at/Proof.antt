@@ -1,4 +1,4 @@
--- The rows, and the numbers of the points.
+-- `rises_at`: the rows, and the numbers of the points.
 use Rattle.segment.specs.declared.Point.{Point}
 use Rattle.segment.proofs.Decides.{eq-decides, not-decides}
 use Rattle.segment.proofs.Answers.{none}
