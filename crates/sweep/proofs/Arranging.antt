@@ -19,7 +19,7 @@ use Rattle.sweep.specs.declared.meeting.Meeting.{Meeting}
 use Rattle.sweep.specs.declared.meeting.Meeting.the-variants.{Apart, Clashing}
 use Rattle.sweep.specs.Line.{startOf, endOf, first, last, Onward}
 use Rattle.sweep.specs.Meetings.{Meets, grade, Met, NoWorse, Worst}
-use Rattle.sweep.specs.Arranged.{view, Joined, Arranged}
+use Rattle.sweep.specs.Arranged.{view, Joined, Arranged, Aligned}
 use Rattle.sweep.proofs.Numbers.{number-first, number-last}
 use Rattle.sweep.proofs.Grades.{exchange, worst-at}
 
@@ -110,9 +110,9 @@ worst-arranged {across} {n} {a} {b} {m} r w = record {
     same i j h k = Iff·trans (joined-clash (r .line i h) (r .line j k)) (view-clash across (startOf (getD a i 0)) (endOf (getD a i 0)) (startOf (getD a j 0)) (endOf (getD a j 0)))
 
 -- Both, with the lengths as the code has them.
-module _ {across : Bool} {n k m : ℕ} {a b c : List ℕ} (r : Arranged across n a b) (s : Rearranged k b c) (e : k ≡ n) (f : m ≡ k) where
+module _ {n k m : ℕ} {a b c : List ℕ} (r : Aligned n a b) (s : Rearranged k b c) (e : k ≡ n) (f : m ≡ k) where
   pub onward-seen : Onward m c
-  onward-seen = record { onward = λ i h. all-one (λ x. first x ≤ last x) s (λ j g. r .line j (omega arith) .onward) i (omega arith) }
+  onward-seen = record { onward = λ i h. all-one (λ x. first x ≤ last x) s (λ j g. r .arranged .line j (omega arith) .onward) i (omega arith) }
 
   pub worst-seen : {w : Meeting} → Worst m c w → Worst n a w
-  worst-seen h = worst-arranged r (worst-at e (worst-rearranged s (worst-at f h)))
+  worst-seen h = worst-arranged (r .arranged) (worst-at e (worst-rearranged s (worst-at f h)))

@@ -21,3 +21,8 @@ pub record Joined (P Q : Point) (r : ℕ) : Type 0 where
 -- The first n lines of b are those of a, seen so.
 pub record Arranged (across : Bool) (n : ℕ) (a b : List ℕ) : Type 0 where
   pub line : (i : ℕ) → i < n → Joined (view across (startOf (getD a i 0))) (view across (endOf (getD a i 0))) (getD b i 0)
+
+-- .. along one axis or the other.
+pub record Aligned (n : ℕ) (a b : List ℕ) : Type 0 where
+  pub across : Bool
+  pub arranged : Arranged across n a b

@@ -12,7 +12,7 @@ ghost use mathlib.Core.Path.{_≡_};
 ghost use Prim.Native.Nat.{_+_, _≤_, _<_};
 ghost use lib.ListN.{length};
 ghost use Rattle.sweep.specs.Line.{startOf, endOf};
-ghost use Rattle.sweep.specs.Arranged.{view, Joined, Arranged};
+ghost use Rattle.sweep.specs.Arranged.{view, Joined, Arranged, Aligned};
 
 // The line between p and q, from the one with the lesser number.
 fn join(p: Point, q: Point) -> u64
@@ -50,7 +50,7 @@ fn aligned(k: u64, across: bool) -> u64
 }
 
 // Every line so.
-pub fn arrange(lines: &mut [u64], across: bool)
+fn arrange(lines: &mut [u64], across: bool)
     ensures { λ _. ⌜ Arranged across (length (now (lines .entry))) (now (lines .entry)) (now (lines .exit)) ⌝ }
 {
     let mut i = 0;
@@ -113,7 +113,7 @@ fn abreast(r: Reach) -> u64
 }
 
 // Do many lines, more than seven, lie abreast by rows, and fewer by columns? Either answer is right: it decides only the time.
-pub fn lie_flat(lines: &[u64]) -> bool
+fn lie_flat(lines: &[u64]) -> bool
     requires { ⌜ length (now lines) ≤ 4097 ⌝ }
 {
     let rows = abreast(reach_along(lines, false));
@@ -121,4 +121,13 @@ pub fn lie_flat(lines: &[u64]) -> bool
         return false;
     }
     abreast(reach_along(lines, true)) < rows
+}
+
+// The lines as they are seen along the axis on which they overlap less.
+pub fn align(lines: &mut [u64])
+    requires { ⌜ length (now lines) ≤ 4097 ⌝ }
+    ensures { λ _. ⌜ Aligned (length (now (lines .entry))) (now (lines .entry)) (now (lines .exit)) ⌝ }
+{
+    let across = lie_flat(lines);
+    arrange(lines, across);
 }

@@ -3,8 +3,7 @@ mod axis;
 pub mod line;
 pub mod meeting;
 
-use crate::axis::arrange;
-use crate::axis::lie_flat;
+use crate::axis::align;
 use crate::line::HALF;
 use crate::line::end;
 use crate::line::start;
@@ -67,13 +66,12 @@ fn worst_of(lines: &[u64]) -> Meeting
     worst
 }
 
-// The worst meeting of two lines, whichever way they go. Leaves them arranged and sorted.
+// The worst meeting of two lines, whichever way they go. Leaves them aligned and sorted.
 pub fn worst_meeting(lines: &mut [u64], scratch: &mut [u64]) -> Meeting
     requires { ⌜ (length (now lines) ≤ 4097) × (length (now lines) ≤ length (now scratch)) ⌝ }
     ensures { λ m. ⌜ Worst (length (now (lines .entry))) (now (lines .entry)) m ⌝ }
 {
-    let across = lie_flat(lines);
-    arrange(lines, across);
+    align(lines);
     sort(lines, scratch, 32);
     worst_of(lines)
 }

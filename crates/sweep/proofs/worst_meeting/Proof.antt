@@ -5,17 +5,14 @@ use borrow.Author.Needs.{needs}
 use Rattle.sweep.proofs.worst_meeting.Statement.{statement}
 use Rattle.sweep.proofs.worst_meeting.Tie as tie
 
-lie-flat-requires : tie.Need-lie-flat-requires
-lie-flat-requires c κs = search needs
-
-arrange-requires : tie.Need-arrange-requires
-arrange-requires c κs = search needs
+align-requires : tie.Need-align-requires
+align-requires c κs = search needs
 
 sort-requires : tie.Need-sort-requires
 sort-requires c κs = search needs
 
 worst-of-requires : tie.Need-worst-of-requires
-worst-of-requires c κs = let e = c .before .before .before .before .before .sort .kept .0 in (onward-seen (c .before .before .before .before .before .before .before .before .before .before .arrange .ensures) (c .before .before .before .before .before .sort .ensures .0) (c .before .before .before .before .before .before .before .before .before .before .arrange .kept .0) e, ascending-length e (c .before .before .before .before .before .sort .ensures .1))
+worst-of-requires c κs = let e = c .before .before .before .before .before .sort .kept .0 in (onward-seen (c .before .before .before .before .before .before .before .before .before .before .align .ensures) (c .before .before .before .before .before .sort .ensures .0) (c .before .before .before .before .before .before .before .before .before .before .align .kept .0) e, ascending-length e (c .before .before .before .before .before .sort .ensures .1))
 
 same-length : tie.Need-same-length
 same-length c = search needs
@@ -24,16 +21,9 @@ same-length-2 : tie.Need-same-length-2
 same-length-2 c = search needs
 
 returns : tie.Need-returns
-returns c = worst-seen (c .before .before .before .before .before .before .before .before .before .before .before .arrange .ensures) (c .before .before .before .before .before .before .sort .ensures .0) (c .before .before .before .before .before .before .before .before .before .before .before .arrange .kept .0) (c .before .before .before .before .before .before .sort .kept .0) (c .worst-of .ensures)
+returns c = worst-seen (c .before .before .before .before .before .before .before .before .before .before .before .align .ensures) (c .before .before .before .before .before .before .sort .ensures .0) (c .before .before .before .before .before .before .before .before .before .before .before .align .kept .0) (c .before .before .before .before .before .before .sort .kept .0) (c .worst-of .ensures)
 
 pub worst-meeting-spec : {M : Type 1} → statement M
 worst-meeting-spec =
     tie.close
-    (tie.spec
-    lie-flat-requires
-    arrange-requires
-    sort-requires
-    worst-of-requires
-    same-length
-    same-length-2
-    returns)
+    (tie.spec align-requires sort-requires worst-of-requires same-length same-length-2 returns)
