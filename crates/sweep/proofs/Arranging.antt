@@ -18,7 +18,7 @@ use Rattle.sort.proofs.Rearranging.{turned, all-one, any-two, all-two}
 use Rattle.sweep.specs.declared.meeting.Meeting.{Meeting}
 use Rattle.sweep.specs.declared.meeting.Meeting.the-variants.{Apart, Clashing}
 use Rattle.sweep.specs.Line.{startOf, endOf, first, last, Onward}
-use Rattle.sweep.specs.Meetings.{Meets, grade, Met, NoWorse, Worst}
+use Rattle.sweep.specs.Meetings.{Meets, Met, NoWorse, Worst}
 use Rattle.sweep.specs.Arranged.{view, Joined, Arranged, Aligned}
 use Rattle.sweep.proofs.Numbers.{number-first, number-last}
 use Rattle.sweep.proofs.Grades.{exchange, worst-at}

@@ -1,5 +1,5 @@
 -- A line as a number: its parts are its points, and its halves their numbers.
-use mathlib.Core.Path.{_≡_, ap, ap₂, _∙_}
+use mathlib.Core.Path.{_≡_}
 use Prim.Native.Nat.{ℕ, _+_, _*_, _<_, _/_, _%_}
 use native.Mathlib.Omega.{arith}
 use Rattle.segment.specs.declared.Point.{Point}

@@ -6,7 +6,7 @@ use segment::most;
 ghost use mathlib.Core.Path.{_≡_};
 ghost use mathlib.Core.Bool.{true};
 ghost use mathlib.Core.Logic.{_⊎_};
-ghost use Prim.Native.Nat.{min, max, _≤_, _<_};
+ghost use Prim.Native.Nat.{min, max, _<_};
 ghost use Rattle.sweep.specs.Meetings.{Meets, grade, Worse};
 
 // Two lines share no point but one that both end at; or they share another.

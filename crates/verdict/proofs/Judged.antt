@@ -1,6 +1,6 @@
 -- The first condition that holds, of lines in any order, and of the table whose lines they are. Rests on Places, and on the laws of rearrangements.
 use mathlib.Core.Path.{_≡_, refl, sym, ap, subst}
-use mathlib.Core.Logic.{_↔_, _≢_, _⊎_, inl, inr, ⊎-elim, Iff·symm}
+use mathlib.Core.Logic.{_↔_, _≢_, inl, inr, ⊎-elim, Iff·symm}
 use mathlib.Core.List.{List, [], _∷_}
 use Prim.Native.Nat.{ℕ}
 use native.Mathlib.Omega.{arith}
@@ -13,7 +13,7 @@ use Rattle.sweep.specs.declared.meeting.Meeting.{Meeting}
 use Rattle.sweep.specs.declared.meeting.Meeting.the-variants.{Apart, Clashing}
 use Rattle.sweep.specs.Line.{startOf, endOf, last}
 use Rattle.sweep.specs.Meetings.{Met, grade, Worst}
-use Rattle.verdict.specs.Conditions.{SamePoint, NotLower, Touching, OutOfOrder}
+use Rattle.verdict.specs.Conditions.{SamePoint, NotLower, OutOfOrder}
 use Rattle.verdict.specs.Verdict.{numbered, FirstOf, conditions}
 use Rattle.verdict.specs.Steps.{Nodes, Listed, Rises, lineConditions}
 use Rattle.verdict.proofs.Places.{same-ends, rising, clashing}

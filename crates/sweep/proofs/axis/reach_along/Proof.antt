@@ -1,5 +1,4 @@
 -- `reach_along`: the sum is at most 65,535 for each line passed.
-use native.Mathlib.Omega.{arith}
 use Prim.Native.Nat.{_≤_, _+_, _*_, _-_}
 use lib.ListN.{length}
 use borrow.Author.Needs.{needs}

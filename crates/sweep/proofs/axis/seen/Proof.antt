@@ -1,5 +1,4 @@
 -- `seen`: by the two cases.
-use borrow.Author.Needs.{needs}
 use Rattle.sweep.proofs.axis.seen.Statement.{statement}
 use Rattle.sweep.proofs.axis.seen.Tie as tie
 
