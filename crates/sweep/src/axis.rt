@@ -81,7 +81,7 @@ fn reach_more(r: Reach, a: u16, b: u16) -> Reach
     }
 }
 
-// How far every seventh line reaches, in rows or in columns.
+// How far the lines reach, in rows or in columns.
 fn reach_along(lines: &[u64], across: bool) -> Reach
     requires { ⌜ length (now lines) ≤ 4097 ⌝ }
     ensures { λ z. ⌜ z .sum < 4294967296 ⌝ }
@@ -97,19 +97,19 @@ fn reach_along(lines: &[u64], across: bool) -> Reach
         let p = seen(start(k), across);
         let q = seen(end(k), across);
         r = reach_more(r, p.row, q.row);
-        i += 7;
+        i += 1;
     }
     r
 }
 
-// How many of these lie abreast, on the average, in sixteenths.
+// How many lines lie abreast, on the average.
 fn abreast(r: Reach) -> u64
     requires { ⌜ r .sum < 4294967296 ⌝ }
 {
     if r.high < r.low {
         return 0;
     }
-    16 * r.sum / (wide(r.high) - wide(r.low) + 1)
+    r.sum / (wide(r.high) - wide(r.low) + 1)
 }
 
 // Do many lines, more than seven, lie abreast by rows, and fewer by columns? Either answer is right: it decides only the time.
@@ -117,7 +117,7 @@ fn lie_flat(lines: &[u64]) -> bool
     requires { ⌜ length (now lines) ≤ 4097 ⌝ }
 {
     let rows = abreast(reach_along(lines, false));
-    if rows <= 16 {
+    if rows <= 7 {
         return false;
     }
     abreast(reach_along(lines, true)) < rows

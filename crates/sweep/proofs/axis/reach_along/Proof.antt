@@ -1,15 +1,15 @@
 -- `reach_along`: the sum is at most 65,535 for each line passed.
-use Prim.Native.Nat.{_≤_, _+_, _*_, _-_}
+use Prim.Native.Nat.{_≤_, _*_, _-_}
 use lib.ListN.{length}
 use borrow.Author.Needs.{needs}
 use Rattle.sweep.proofs.axis.reach_along.Statement.{statement}
 use Rattle.sweep.proofs.axis.reach_along.Tie as tie
 
 abbrev Inv-loop : tie.InvT-loop
-Inv-loop lines across r₀ i₀ r i = (i ≤ length lines + 7) × (r .sum ≤ 65535 * i)
+Inv-loop lines across r₀ i₀ r i = (i ≤ length lines) × (r .sum ≤ 65535 * i)
 
 abbrev μ-loop : tie.MeasureT-loop
-μ-loop lines across r₀ i₀ r i = length lines + 7 - i
+μ-loop lines across r₀ i₀ r i = length lines - i
 
 loop-holds : tie.Need-loop-holds Inv-loop μ-loop
 loop-holds c = search needs
