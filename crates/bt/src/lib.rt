@@ -1,19 +1,11 @@
 // The library for other languages (include/bt.h). Each function has the contract of the proved one that it calls.
 use drawing::Drawn;
+use sweep::line::wide;
 ghost use mathlib.Core.Path.{_≡_};
-ghost use Prim.Native.Nat.{_<_};
 ghost use Rattle.drawing.specs.Answer.{drawnOf, placedIn};
 ghost use Rattle.verdict.specs.Verdict.{Verdict};
 ghost use Rattle.width.specs.Allowed.{allowedWidth};
 ghost use Rattle.bt.specs.Packed.{packed};
-
-// A number of 16 bits, as one of 64.
-fn wide(n: u16) -> u64
-    ensures { λ r. ⌜ r ≡ n ⌝ }
-    ensures { λ r. ⌜ r < 65536 ⌝ }
-{
-    n as u64
-}
 
 fn pack(drawn: Drawn) -> u64
     ensures { λ r. ⌜ r ≡ packed drawn ⌝ }

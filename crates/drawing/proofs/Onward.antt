@@ -13,14 +13,14 @@ use Rattle.table.specs.Tree.{Tree, none, node}
 use Rattle.layout.specs.Layout.{Layout}
 use Rattle.layout.specs.Spine.{SpineNode, hangs, Role, knee, ordinary, switch, opposite, seen, runRole, roleAfter, handAfter}
 use Rattle.layout.specs.Drawing.{Rest, join}
-use Rattle.layout.specs.Held.{inwards, hungOn, heightOn, widthOn, roleNext, far, lay, bottom, Inside, Rooms, knee-room, ordinary-room, switch-room}
+use Rattle.layout.specs.inner.Held.{inwards, hungOn, heightOn, widthOn, roleNext, far, lay, bottom, Inside, Rooms, knee-room, ordinary-room, switch-room}
 use Rattle.layout.proofs.Spines.{spineTree}
 use Rattle.layout.proofs.Held.{inside-less}
-use Rattle.measure.specs.Prepared.{codeOf, Prepared, Along, no-spine, onward}
+use Rattle.measure.specs.inner.Prepared.{codeOf, Prepared, Along, no-spine, onward}
 use Rattle.drawing.specs.Answer.{store}
-use Rattle.measure.specs.Roles.{isSwitch}
-use Rattle.drawing.specs.Placing.{point, kept, finish, finished, Ready}
-use Rattle.drawing.proofs.StoredOrder.{Apart, store-comm, store-join}
+use Rattle.measure.specs.inner.Roles.{isSwitch}
+use Rattle.drawing.specs.inner.Placing.{point, kept, finish, finished, Ready}
+use Rattle.drawing.proofs.StoredOrder.{DisjointLayouts, store-comm, store-join}
 use Rattle.drawing.proofs.Shapes.{Disjoint, hung-none, height-none, width-none, shape-hung, shape-lay}
 use Rattle.drawing.proofs.Columns.{over-edge, over-back}
 
@@ -63,7 +63,7 @@ finished-run W a e o H r Q ls p h = ap (λ (T : Tree). finish a e T (lay a e (in
 
 -- ---- what is left gives the same
 
-apart-laid : (a b : Side) (e e′ f t : ℕ) (o : Role) (H r p : ℕ) (S : Tree) (ls : List SpineNode) → Disjoint S (spineTree ls) → Apart (hungOn a e t S) (lay b e′ f o H r p ls .drawn)
+apart-laid : (a b : Side) (e e′ f t : ℕ) (o : Role) (H r p : ℕ) (S : Tree) (ls : List SpineNode) → Disjoint S (spineTree ls) → DisjointLayouts (hungOn a e t S) (lay b e′ f o H r p ls .drawn)
 apart-laid a b e e′ f t o H r p S ls h = rw (shape-hung a e t S, shape-lay b e′ f o H r p ls) h
 
 module _ (W : ℕ) (a : Side) (e H r k : ℕ) (s : Side) (S Q : Tree) (ls : List SpineNode) (p : List ℕ) (apart : Disjoint S (spineTree ls)) where
@@ -101,7 +101,7 @@ module _ (W : ℕ) (a : Side) (e H r k : ℕ) (s : Side) (S Q : Tree) (ls : List
       laid : lay a e f knee H r (heightOn a Q) (hangs k s S ∷ ls) .drawn ≡ join k (at e r) s (hungOn a (inwards a e 1) (after-near .under) S) (after-near .drawn)
       laid = rw (h, lay)
 
-      sides : Apart (hungOn a (inwards a e 1) (after-near .under) S) (after-near .drawn)
+      sides : DisjointLayouts (hungOn a (inwards a e 1) (after-near .under) S) (after-near .drawn)
       sides = apart-laid a a _ e _ _ _ _ _ _ S ls apart
 
   pub ordinary-on : finished W a e (roleNext a ordinary ls) (r + heightOn a S) (r + max 1 (heightOn a S)) Q ls (store (hungOn a (inwards a e 2) (r + 1) S) (point k (inwards a e 1) r p))
@@ -181,14 +181,14 @@ bottom-low a switch H r p (hangs k s S ∷ ls) h = omega (arith, bottom-low (opp
 
 -- ---- drawing can go on
 
-pub along-role : {roles gaps : List ℕ} {a s : Side} {o : Role} {k : ℕ} {S : Tree} {ls : List SpineNode} → Along roles gaps a o (hangs k s S ∷ ls) → getD roles k 0 ≡ codeOf a o
+pub along-role : {roles widest : List ℕ} {a s : Side} {o : Role} {k : ℕ} {S : Tree} {ls : List SpineNode} → Along roles widest a o (hangs k s S ∷ ls) → getD roles k 0 ≡ codeOf a o
 along-role (onward c q n) = c
 
-pub along-hung : {roles gaps : List ℕ} {a s : Side} {o : Role} {k : ℕ} {S : Tree} {ls : List SpineNode} → Along roles gaps a o (hangs k s S ∷ ls) → Prepared roles gaps a S
+pub along-hung : {roles widest : List ℕ} {a s : Side} {o : Role} {k : ℕ} {S : Tree} {ls : List SpineNode} → Along roles widest a o (hangs k s S ∷ ls) → Prepared roles widest a S
 along-hung (onward c q n) = q
 
-pub along-next : {roles gaps : List ℕ} {a s : Side} {o : Role} {k : ℕ} {S : Tree} {ls : List SpineNode} → Along roles gaps a o (hangs k s S ∷ ls) →
-    Along roles gaps (handAfter o a) (roleNext (handAfter o a) o ls) ls
+pub along-next : {roles widest : List ℕ} {a s : Side} {o : Role} {k : ℕ} {S : Tree} {ls : List SpineNode} → Along roles widest a o (hangs k s S ∷ ls) →
+    Along roles widest (handAfter o a) (roleNext (handAfter o a) o ls) ls
 along-next (onward c q n) = n
 
 module _ {B W : ℕ} {a s : Side} {e f k : ℕ} {S : Tree} {ls : List SpineNode} where
@@ -213,8 +213,8 @@ module _ {B W : ℕ} {a s : Side} {e f k : ℕ} {S : Tree} {ls : List SpineNode}
   pub after-switch-room : Rooms B W a e f switch (hangs k s S ∷ ls) → Rooms B W (opposite a) f e (roleNext (opposite a) switch ls) ls
   after-switch-room (switch-room w i x n) = n
 
-module _ (roles gaps : List ℕ) (W : ℕ) (a : Side) (e H r k : ℕ) (s : Side) (S Q : Tree) (ls : List SpineNode) where
-  pub ready-far : far a s ≡ true → Ready roles gaps W a e knee H r Q (hangs k s S ∷ ls) → Ready roles gaps W a e (roleNext a knee ls) (max H r + heightOn a S) (max H r + heightOn a S + 1) none ls
+module _ (roles widest : List ℕ) (W : ℕ) (a : Side) (e H r k : ℕ) (s : Side) (S Q : Tree) (ls : List SpineNode) where
+  pub ready-far : far a s ≡ true → Ready roles widest W a e knee H r Q (hangs k s S ∷ ls) → Ready roles widest W a e (roleNext a knee ls) (max H r + heightOn a S) (max H r + heightOn a S + 1) none ls
   unfolding handAfter
   ready-far h g = record {
     prepared = no-spine;
@@ -224,7 +224,7 @@ module _ (roles gaps : List ℕ) (W : ℕ) (a : Side) (e H r k : ℕ) (s : Side)
     rows = omega (arith, g .rows, bottom-far a s H r (heightOn a Q) k S ls h);
   }
 
-  pub ready-near : far a s ≡ false → Ready roles gaps W a e knee H r Q (hangs k s S ∷ ls) → Ready roles gaps W a e (roleNext a knee ls) (max H r) (max H r + 1) S ls
+  pub ready-near : far a s ≡ false → Ready roles widest W a e knee H r Q (hangs k s S ∷ ls) → Ready roles widest W a e (roleNext a knee ls) (max H r) (max H r + 1) S ls
   unfolding handAfter
   ready-near h g = record {
     prepared = along-hung (g .along);
@@ -234,12 +234,12 @@ module _ (roles gaps : List ℕ) (W : ℕ) (a : Side) (e H r k : ℕ) (s : Side)
     rows = omega (arith, g .rows, bottom-near a s H r (heightOn a Q) k S ls h);
   }
 
-  pub ready-ordinary : Ready roles gaps W a e ordinary H r Q (hangs k s S ∷ ls) → Ready roles gaps W a e (roleNext a ordinary ls) (r + heightOn a S) (r + max 1 (heightOn a S)) Q ls
+  pub ready-ordinary : Ready roles widest W a e ordinary H r Q (hangs k s S ∷ ls) → Ready roles widest W a e (roleNext a ordinary ls) (r + heightOn a S) (r + max 1 (heightOn a S)) Q ls
   unfolding handAfter bottom
   ready-ordinary g = record { prepared = g .prepared; along = along-next (g .along); spare = g .spare; rooms = after-ordinary-room (g .rooms); rows = g .rows }
 
-  pub ready-switch : Ready roles gaps W a e switch H r Q (hangs k s S ∷ ls) →
-      Ready roles gaps W (opposite a) (inwards a e (W + 2)) (roleNext (opposite a) switch ls) (r + heightOn a S + heightOn a Q) (r + 1) none ls
+  pub ready-switch : Ready roles widest W a e switch H r Q (hangs k s S ∷ ls) →
+      Ready roles widest W (opposite a) (inwards a e (W + 2)) (roleNext (opposite a) switch ls) (r + heightOn a S + heightOn a Q) (r + 1) none ls
   unfolding handAfter
   ready-switch g = record {
     prepared = no-spine;
@@ -250,21 +250,21 @@ module _ (roles gaps : List ℕ) (W : ℕ) (a : Side) (e H r k : ℕ) (s : Side)
   }
 
   -- The rows of what is drawn at a node are above those below it.
-  pub rows-far : far a s ≡ true → Ready roles gaps W a e knee H r Q (hangs k s S ∷ ls) → max H r + heightOn a S + 1 ≤ 65536
+  pub rows-far : far a s ≡ true → Ready roles widest W a e knee H r Q (hangs k s S ∷ ls) → max H r + heightOn a S + 1 ≤ 65536
   rows-far h g = omega (arith, ready-far h g .rows, bottom-low a _ (max H r + heightOn a S) (max H r + heightOn a S + 1) (heightOn a none) ls (low-run a knee _ _ ls refl (omega arith)))
 
-  pub rows-near : far a s ≡ false → Ready roles gaps W a e knee H r Q (hangs k s S ∷ ls) → max H r + 1 ≤ 65536
+  pub rows-near : far a s ≡ false → Ready roles widest W a e knee H r Q (hangs k s S ∷ ls) → max H r + 1 ≤ 65536
   rows-near h g = omega (arith, ready-near h g .rows, bottom-low a _ (max H r) (max H r + 1) (heightOn a S) ls (low-run a knee _ _ ls refl (omega arith)))
 
-  pub rows-knee : Ready roles gaps W a e knee H r Q (hangs k s S ∷ ls) → max H r + 1 ≤ 65536
+  pub rows-knee : Ready roles widest W a e knee H r Q (hangs k s S ∷ ls) → max H r + 1 ≤ 65536
   rows-knee g = go (far a s) refl
     where
       go : (b : Bool) → far a s ≡ b → max H r + 1 ≤ 65536
       go true h = omega (arith, rows-far h g)
       go false h = rows-near h g
 
-  pub rows-ordinary : Ready roles gaps W a e ordinary H r Q (hangs k s S ∷ ls) → r + heightOn a S + 1 ≤ 65536
+  pub rows-ordinary : Ready roles widest W a e ordinary H r Q (hangs k s S ∷ ls) → r + heightOn a S + 1 ≤ 65536
   rows-ordinary g = omega (arith, ready-ordinary g .rows, bottom-low a _ (r + heightOn a S) (r + max 1 (heightOn a S)) (heightOn a Q) ls (low-run a ordinary _ _ ls refl (omega arith)))
 
-  pub rows-switch : Ready roles gaps W a e switch H r Q (hangs k s S ∷ ls) → r + heightOn a S + heightOn a Q + 1 ≤ 65536
+  pub rows-switch : Ready roles widest W a e switch H r Q (hangs k s S ∷ ls) → r + heightOn a S + heightOn a Q + 1 ≤ 65536
   rows-switch g = omega (arith, ready-switch g .rows, bottom-low (opposite a) _ (r + heightOn a S + heightOn a Q) (r + 1) (heightOn (opposite a) none) ls (low-over (opposite a) _ _ ls))

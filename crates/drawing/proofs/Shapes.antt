@@ -13,7 +13,7 @@ use Rattle.table.proofs.Lists.{same, count-append}
 use Rattle.layout.specs.Layout.{Layout, blank, placed, width, height, mirror}
 use Rattle.layout.specs.Spine.{SpineNode, hangs, Role, knee, ordinary, switch}
 use Rattle.layout.specs.Drawing.{join, draw, drawing}
-use Rattle.layout.specs.Held.{facing, put, hungOn, heightOn, widthOn, spineOn, far, lay}
+use Rattle.layout.specs.inner.Held.{facing, put, hungOn, heightOn, widthOn, spineOn, far, lay}
 use Rattle.layout.proofs.Rows.{shape, size-facing}
 use Rattle.layout.proofs.Spines.{over, spineTree}
 use Rattle.layout.proofs.Theorem.{promise}

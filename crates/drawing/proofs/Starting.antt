@@ -8,23 +8,22 @@ use native.Mathlib.Omega.{arith}
 use lib.Dec.{T}
 use lib.ListN.{length, getD}
 use Rattle.table.specs.Lists.{count}
-use Rattle.table.specs.Table.{Side, left, right, leftOf, rightOf, linkOf}
+use Rattle.table.specs.Table.{Side, left, right, leftOf, rightOf, linkOf, Chained}
 use Rattle.table.specs.Tree.{Tree, none, node, size, nodes, treeAt}
 use Rattle.table.specs.Refusal.{fault}
 use Rattle.table.proofs.Lists.{repeats-count}
-use Rattle.table.proofs.Chain.{Chained}
 use Rattle.table.proofs.Accepted.{tree-none, nodes-distinct, down, tree-unfolds}
 use Rattle.layout.specs.Layout.{Layout}
 use Rattle.layout.specs.Spine.{SpineNode, Role, knee}
 use Rattle.layout.specs.Drawing.{draw}
-use Rattle.layout.specs.Held.{facing, inwards, hungOn, heightOn, widthOn, widestOn, spineOn, lay, Frame, bottom, Inside}
+use Rattle.layout.specs.inner.Held.{facing, inwards, hungOn, heightOn, widthOn, widestOn, spineOn, lay, Frame, bottom, Inside}
 use Rattle.layout.proofs.Held.{inside-less, hung-inside, rooms-law, inside-fits, hung-law, bottom-law}
-use Rattle.measure.specs.Sized.{Named}
-use Rattle.measure.specs.Forked.{sideOf}
-use Rattle.measure.specs.Prepared.{Prepared, Along, no-spine, a-spine}
+use Rattle.measure.specs.inner.Sized.{Named}
+use Rattle.measure.specs.inner.Forked.{sideOf}
+use Rattle.measure.specs.inner.Prepared.{Prepared, Along, no-spine, a-spine}
 use Rattle.drawing.specs.Answer.{store}
 use Rattle.drawing.specs.declared.place.Walk.{Walk}
-use Rattle.drawing.specs.Placing.{Hanging, Hung, kept, finish, finished, handOf, spineFrom, Going, unplaced, Stepped, rowBelow, remaining}
+use Rattle.drawing.specs.inner.Placing.{Hanging, Hung, kept, finish, finished, handAt, spineFrom, Going, unplaced, Stepped, rowBelow, remaining}
 use Rattle.drawing.proofs.Shapes.{count-node, hung-none, height-none, width-none, width-node}
 use Rattle.drawing.proofs.Onward.{finished-none}
 
@@ -51,11 +50,11 @@ hung-nothing t s k e top p z = record {
 -- ---- code has the side as a bool
 
 -- A node's drawing has a column, where its edge is.
-pub column-hung : (t roles gaps : List ℕ) (s : Side) (k e c top : ℕ) → fault t ≡ 0 → 0 < k → Hanging t roles gaps s k e c top → Inside 65536 s e (c + 1)
-column-hung t roles gaps s k e c top ok h g = inside-less 65536 s e (omega (arith, width-node s (treeAt t k) (some-node t ok k (named-node t k (g .named) h)))) (g .columns)
+pub column-hung : (t roles widest : List ℕ) (s : Side) (k e c top : ℕ) → fault t ≡ 0 → 0 < k → Hanging t roles widest s k e c top → Inside 65536 s e (c + 1)
+column-hung t roles widest s k e c top ok h g = inside-less 65536 s e (omega (arith, width-node s (treeAt t k) (some-node t ok k (named-node t k (g .named) h)))) (g .columns)
 
-pub hanging-side : (t roles gaps : List ℕ) (b d : Bool) (k e c top edge : ℕ) → b ≡ d → edge ≡ inwards (sideOf b) e c → Hanging t roles gaps (sideOf b) k e c top → Hanging t roles gaps (sideOf d) k edge 0 top
-hanging-side t roles gaps b d k e c top edge q r h = subst (λ (x : Bool). Hanging t roles gaps (sideOf x) k edge 0 top) q (record {
+pub hanging-side : (t roles widest : List ℕ) (b d : Bool) (k e c top edge : ℕ) → b ≡ d → edge ≡ inwards (sideOf b) e c → Hanging t roles widest (sideOf b) k e c top → Hanging t roles widest (sideOf d) k edge 0 top
+hanging-side t roles widest b d k e c top edge q r h = subst (λ (x : Bool). Hanging t roles widest (sideOf x) k edge 0 top) q (record {
   named = h .named;
   prepared = h .prepared;
   columns = rw r (inside-less 65536 (sideOf b) _ (omega arith) (hung-inside 65536 (sideOf b) e c _ (h .columns)));
@@ -67,20 +66,20 @@ hung-side t b d k e c top below edge p p′ q r h = subst₂ (λ (x : Bool) (n :
 
 -- ---- the end
 
-module _ (t roles gaps : List ℕ) (w : Walk) (ended : w .at ≡ 0) where
+module _ (t roles widest : List ℕ) (w : Walk) (ended : w .at ≡ 0) where
   no-spine-left : spineFrom t w ≡ []
   unfolding spineOn
   no-spine-left = ap (spineOn (sideOf (w .mirrored))) (ap (treeAt t) ended ∙ tree-none t)
 
-  pub bottom-end : (o : Role) → rowBelow t o w ≡ w .lowest + 1 + heightOn (handOf w) (treeAt t (w .pending))
+  pub bottom-end : (o : Role) → rowBelow t o w ≡ w .lowest + 1 + heightOn (handAt w) (treeAt t (w .pending))
   unfolding bottom
-  bottom-end o = ap (bottom (handOf w) o (w .lowest) (w .row) (heightOn (handOf w) (treeAt t (w .pending)))) no-spine-left ∙ omega arith
+  bottom-end o = ap (bottom (handAt w) o (w .lowest) (w .row) (heightOn (handAt w) (treeAt t (w .pending)))) no-spine-left ∙ omega arith
 
-  pub remaining-end : (o : Role) (p : List ℕ) → remaining t o w p ≡ store (hungOn (handOf w) (inwards (handOf w) (w .edge) 1) (w .lowest + 1) (treeAt t (w .pending))) p
+  pub remaining-end : (o : Role) (p : List ℕ) → remaining t o w p ≡ store (hungOn (handAt w) (inwards (handAt w) (w .edge) 1) (w .lowest + 1) (treeAt t (w .pending))) p
   unfolding finished finish kept lay store
-  remaining-end o p = ap (λ (ls : List SpineNode). finished (w .gap) (handOf w) (w .edge) o (w .lowest) (w .row) (treeAt t (w .pending)) ls p) no-spine-left
+  remaining-end o p = ap (λ (ls : List SpineNode). finished (w .widest) (handAt w) (w .edge) o (w .lowest) (w .row) (treeAt t (w .pending)) ls p) no-spine-left
 
-  pub hanging-end : (o : Role) → Going t roles gaps o w → Hanging t roles gaps (handOf w) (w .pending) (w .edge) 1 (w .lowest + 1)
+  pub hanging-end : (o : Role) → Going t roles widest o w → Hanging t roles widest (handAt w) (w .pending) (w .edge) 1 (w .lowest + 1)
   hanging-end o g = record { named = g .named-pending; prepared = g .ready .prepared; columns = g .ready .spare; rows = omega (arith, g .ready .rows, bottom-end o) }
 
 -- ---- the start
@@ -98,10 +97,10 @@ module _ (t : List ℕ) (ok : fault t ≡ 0) where
       step k right c d h i = once-below i k _ _ (rw (tree-unfolds t ok k c) at (h i)) .1
 
 -- What is measured of a node: W of its spine, and the roles along it.
-spine-gap : {roles gaps : List ℕ} {s : Side} {k : ℕ} {a b : Tree} → Prepared roles gaps s (node k a b) → getD gaps k 0 ≡ widestOn s (node k a b)
-spine-gap (a-spine e l) = e
+spine-widest : {roles widest : List ℕ} {s : Side} {k : ℕ} {a b : Tree} → Prepared roles widest s (node k a b) → getD widest k 0 ≡ widestOn s (node k a b)
+spine-widest (a-spine e l) = e
 
-spine-along : {roles gaps : List ℕ} {s : Side} {k : ℕ} {a b : Tree} → Prepared roles gaps s (node k a b) → Along roles gaps s knee (spineOn s (node k a b))
+spine-along : {roles widest : List ℕ} {s : Side} {k : ℕ} {a b : Tree} → Prepared roles widest s (node k a b) → Along roles widest s knee (spineOn s (node k a b))
 spine-along (a-spine e l) = l
 
 frame : (s : Side) (e w : ℕ) → Frame s e (inwards s e w) w
@@ -109,13 +108,13 @@ unfolding inwards
 frame left e w = refl
 frame right e w = λ h. omega arith
 
-module _ (t roles gaps : List ℕ) (ok : fault t ≡ 0) (b : Bool) (root edge top : ℕ) (g : Hanging t roles gaps (sideOf b) root edge 0 top) (node-there : 0 < root) where
+module _ (t roles widest : List ℕ) (ok : fault t ≡ 0) (b : Bool) (root edge top : ℕ) (g : Hanging t roles widest (sideOf b) root edge 0 top) (node-there : 0 < root) where
   abbrev s : Side
   s = sideOf b
 
   -- The walk at the first node, a knee.
   abbrev pub start : Walk
-  start = record { at = root; row = top; lowest = top; pending = 0; right = b; edge = edge; gap = getD gaps root 0; mirrored = b }
+  start = record { at = root; row = top; lowest = top; pending = 0; right = b; edge = edge; widest = getD widest root 0; mirrored = b }
 
   chained : Chained t root
   chained = named-node t root (g .named) node-there
@@ -126,13 +125,13 @@ module _ (t roles gaps : List ℕ) (ok : fault t ≡ 0) (b : Bool) (root edge to
   some : 0 < size (treeAt t root)
   some = some-node t ok root chained
 
-  gap-law : getD gaps root 0 ≡ widestOn s (treeAt t root)
-  gap-law = rw tree (spine-gap (rw tree at (g .prepared)))
+  widest-law : getD widest root 0 ≡ widestOn s (treeAt t root)
+  widest-law = rw tree (spine-widest (rw tree at (g .prepared)))
 
   inside : Inside 65536 s edge (widthOn s (treeAt t root))
   inside = inside-less 65536 s edge (omega arith) (g .columns)
 
-  pub going-start : Going t roles gaps knee start
+  pub going-start : Going t roles widest knee start
   unfolding nodes count
   going-start = record {
     named = g .named;
@@ -142,14 +141,14 @@ module _ (t roles gaps : List ℕ) (ok : fault t ≡ 0) (b : Bool) (root edge to
       prepared = no-spine;
       along = rw tree (spine-along (rw tree at (g .prepared)));
       spare = inside-less 65536 s edge (omega (arith, width-none s, width-node s (treeAt t root) some)) inside;
-      rooms = rw gap-law (rooms-law 65536 s edge _ top (treeAt t root) (frame s edge _) inside);
+      rooms = rw widest-law (rooms-law 65536 s edge _ top (treeAt t root) (frame s edge _) inside);
       rows = rw (height-none s) (omega (arith, bottom-law s top (treeAt t root) some, g .rows));
     });
   }
 
   pub remaining-start : (p : List ℕ) → remaining t knee start p ≡ store (hungOn s edge top (treeAt t root)) p
   unfolding widthOn
-  remaining-start p = rw (tree-none t) (finished-none (getD gaps root 0) s edge knee top top _ p ∙ ap (λ (L : Layout). store L p) (sym (hung-law s edge _ top (treeAt t root) (rw gap-law (frame s edge _)) (inside-fits 65536 s edge (draw (facing s (treeAt t root))) inside))))
+  remaining-start p = rw (tree-none t) (finished-none (getD widest root 0) s edge knee top top _ p ∙ ap (λ (L : Layout). store L p) (sym (hung-law s edge _ top (treeAt t root) (rw widest-law (frame s edge _)) (inside-fits 65536 s edge (draw (facing s (treeAt t root))) inside))))
 
   pub bottom-start : rowBelow t knee start ≡ top + heightOn s (treeAt t root)
   bottom-start = rw (tree-none t, height-none s) (bottom-law s top (treeAt t root) some)
@@ -159,17 +158,17 @@ module _ (t roles gaps : List ℕ) (ok : fault t ≡ 0) (b : Bool) (root edge to
 
 -- ---- on the way
 
-pub record Walked (t roles gaps : List ℕ) (p₀ : List ℕ) (w₀ : Walk) (p : List ℕ) (w : Walk) : Type 0 where
+pub record SoFar (t roles widest : List ℕ) (p₀ : List ℕ) (w₀ : Walk) (p : List ℕ) (w : Walk) : Type 0 where
   pub role : Role
-  pub going : Going t roles gaps role w
+  pub going : Going t roles widest role w
   pub same : remaining t role w p ≡ remaining t knee w₀ p₀
   pub as-deep : rowBelow t role w ≡ rowBelow t knee w₀
   pub fewer : unplaced t w ≤ size (treeAt t (w₀ .at))
   pub one-less : size (treeAt t (w .pending)) < size (treeAt t (w₀ .at))
   pub kept : length p ≡ length p₀
 
-module _ (t roles gaps : List ℕ) where
-  pub walked-start : fault t ≡ 0 → (p : List ℕ) (w : Walk) → Going t roles gaps knee w → 0 < w .at → w .pending ≡ 0 → Walked t roles gaps p w p w
+module _ (t roles widest : List ℕ) where
+  pub walked-start : fault t ≡ 0 → (p : List ℕ) (w : Walk) → Going t roles widest knee w → 0 < w .at → w .pending ≡ 0 → SoFar t roles widest p w p w
   unfolding size
   walked-start ok p w g h z =
       let none-there : size (treeAt t (w .pending)) ≡ 0 = ap (λ (k : ℕ). size (treeAt t k)) z ∙ ap size (tree-none t) in
@@ -183,7 +182,7 @@ module _ (t roles gaps : List ℕ) where
         kept = refl;
       }
 
-  pub walked-on : (p₀ : List ℕ) (w₀ : Walk) (p : List ℕ) (w : Walk) (p′ : List ℕ) (w′ : Walk) → (g : Walked t roles gaps p₀ w₀ p w) → Stepped t roles gaps (g .role) w p w′ p′ → length p′ ≡ length p → Walked t roles gaps p₀ w₀ p′ w′
+  pub walked-on : (p₀ : List ℕ) (w₀ : Walk) (p : List ℕ) (w : Walk) (p′ : List ℕ) (w′ : Walk) → (g : SoFar t roles widest p₀ w₀ p w) → Stepped t roles widest (g .role) w p w′ p′ → length p′ ≡ length p → SoFar t roles widest p₀ w₀ p′ w′
   walked-on p₀ w₀ p w p′ w′ g d e = record {
     role = d .role;
     going = d .going;
@@ -194,7 +193,7 @@ module _ (t roles gaps : List ℕ) where
     kept = e ∙ g .kept;
   }
 
-  pub walked-end : (p₀ : List ℕ) (w₀ : Walk) (p : List ℕ) (w : Walk) (p′ : List ℕ) (below : ℕ) → (g : Walked t roles gaps p₀ w₀ p w) → w .at ≡ 0 →
-      Hung t (handOf w) (w .pending) (inwards (handOf w) (w .edge) 1) (w .lowest + 1) p below p′ → (below ≡ rowBelow t knee w₀) × (p′ ≡ remaining t knee w₀ p₀)
+  pub walked-end : (p₀ : List ℕ) (w₀ : Walk) (p : List ℕ) (w : Walk) (p′ : List ℕ) (below : ℕ) → (g : SoFar t roles widest p₀ w₀ p w) → w .at ≡ 0 →
+      Hung t (handAt w) (w .pending) (inwards (handAt w) (w .edge) 1) (w .lowest + 1) p below p′ → (below ≡ rowBelow t knee w₀) × (p′ ≡ remaining t knee w₀ p₀)
   walked-end p₀ w₀ p w p′ below g z d =
-      (d .ends ∙ (sym (bottom-end t roles gaps w z (g .role)) ∙ g .as-deep), d .stored ∙ (sym (remaining-end t roles gaps w z (g .role) p) ∙ g .same))
+      (d .ends ∙ (sym (bottom-end t roles widest w z (g .role)) ∙ g .as-deep), d .stored ∙ (sym (remaining-end t roles widest w z (g .role) p) ∙ g .same))

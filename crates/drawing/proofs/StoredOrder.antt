@@ -33,10 +33,10 @@ store-pair (placed k Q a b) i P p none =
     (ap (store b) (store-pair a i P (pair p k Q) (omega arith)) ∙ store-pair b i P (store a (pair p k Q)) (omega arith))
 
 -- No record is in both layouts.
-abbrev pub Apart : Layout → Layout → Type 0
-Apart A B = (k : ℕ) → times k A + times k B ≤ 1
+abbrev pub DisjointLayouts : Layout → Layout → Type 0
+DisjointLayouts A B = (k : ℕ) → times k A + times k B ≤ 1
 
-pub store-comm : (A B : Layout) (p : List ℕ) → Apart A B → store A (store B p) ≡ store B (store A p)
+pub store-comm : (A B : Layout) (p : List ℕ) → DisjointLayouts A B → store A (store B p) ≡ store B (store A p)
 unfolding store
 store-comm blank B p h = refl
 store-comm (placed k P a b) B p h =
@@ -45,7 +45,7 @@ store-comm (placed k P a b) B p h =
     store-comm b B (store a (pair p k P)) (λ i. omega (arith, times-placed i k P a b, h i)))
 
 -- A spine node: its point, what hangs from it, and then the rest.
-pub store-join : (k : ℕ) (P : Point) (s : Side) (D N : Layout) (p : List ℕ) → Apart D N → store (join k P s D N) p ≡ store N (store D (pair p k P))
+pub store-join : (k : ℕ) (P : Point) (s : Side) (D N : Layout) (p : List ℕ) → DisjointLayouts D N → store (join k P s D N) p ≡ store N (store D (pair p k P))
 unfolding store join
 store-join k P left D N p h = refl
 store-join k P right D N p h = store-comm D N _ h

@@ -12,18 +12,18 @@ use Rattle.table.specs.Tree.{Tree, none, size, nodes, treeAt}
 use Rattle.table.proofs.Lists.{same}
 use Rattle.table.proofs.Accepted.{tree-none, records-bounds, chain-within}
 use Rattle.layout.specs.Spine.{SpineNode, hangs, Role, knee, ordinary, switch, opposite}
-use Rattle.layout.specs.Held.{inwards, hungOn, heightOn, spineOn, roleNext, far, bottom, Inside}
+use Rattle.layout.specs.inner.Held.{inwards, hungOn, heightOn, spineOn, roleNext, far, bottom, Inside}
 use Rattle.layout.proofs.Spines.{over, spineTree}
 use Rattle.layout.proofs.Held.{inside-less}
-use Rattle.measure.specs.Sized.{Named}
-use Rattle.measure.specs.Forked.{sideOf, Forked}
-use Rattle.measure.specs.Prepared.{codeOf}
+use Rattle.measure.specs.inner.Sized.{Named}
+use Rattle.measure.specs.inner.Forked.{sideOf, Forked}
+use Rattle.measure.specs.inner.Prepared.{codeOf}
 use Rattle.measure.specs.declared.roles.Role.{Role as Coded}
-use Rattle.measure.specs.Roles.{handOf as sideOfCoded, roleOf, isSwitch}
+use Rattle.measure.specs.inner.Roles.{handOf as sideOfCoded, roleOf, isSwitch}
 use Rattle.measure.proofs.Choices.{code-same, code-small}
 use Rattle.drawing.specs.Answer.{store}
 use Rattle.drawing.specs.declared.place.Walk.{Walk}
-use Rattle.drawing.specs.Placing.{isKnee, point, Given, Hanging, Hung, finished, Ready, walkTo, handOf, Going, Stepped}
+use Rattle.drawing.specs.inner.Placing.{isKnee, point, Given, Hanging, Hung, finished, Ready, walkTo, handAt, Going, Stepped}
 use Rattle.drawing.proofs.Shapes.{Disjoint, count-node, tree-spine}
 use Rattle.drawing.proofs.Columns.{inside-edge, inside-count, side-not}
 use Rattle.drawing.proofs.Onward.{knee-far, knee-near, ordinary-on, switch-over, bottom-far, bottom-near, bottom-over, along-role, along-hung, at-knee-room, at-ordinary-room, at-switch-width, at-switch-room, ready-far, ready-near, ready-ordinary, ready-switch, rows-far, rows-knee, rows-ordinary, rows-switch}
@@ -38,16 +38,16 @@ unfolding size
 size-none t = ap size (tree-none t)
 
 -- A record has its place in the placements.
-pub entry-within : (t sizes roles gaps p : List ℕ) → Given t sizes roles gaps p → (k : ℕ) → Named t k → 2 * k + 1 < length p
-entry-within t sizes roles gaps p g k (inl e) = omega (arith, g .enough, records-bounds t (g .sound))
-entry-within t sizes roles gaps p g k (inr c) = omega (arith, g .enough, chain-within t (g .sound) k c)
+pub entry-within : (t sizes roles widest p : List ℕ) → Given t sizes roles widest p → (k : ℕ) → Named t k → 2 * k + 1 < length p
+entry-within t sizes roles widest p g k (inl e) = omega (arith, g .enough, records-bounds t (g .sound))
+entry-within t sizes roles widest p g k (inr c) = omega (arith, g .enough, chain-within t (g .sound) k c)
 
 -- Placements of the same number serve as well.
-pub given-kept : (t sizes roles gaps p p′ : List ℕ) → length p′ ≡ length p → Given t sizes roles gaps p → Given t sizes roles gaps p′
-given-kept t sizes roles gaps p p′ e g = record { sound = g .sound; sized = g .sized; long-roles = g .long-roles; long-gaps = g .long-gaps; enough = omega (arith, g .enough) }
+pub given-kept : (t sizes roles widest p p′ : List ℕ) → length p′ ≡ length p → Given t sizes roles widest p → Given t sizes roles widest p′
+given-kept t sizes roles widest p p′ e g = record { sound = g .sound; sized = g .sized; long-roles = g .long-roles; long-widest = g .long-widest; enough = omega (arith, g .enough) }
 
-pub hanging-as : (t roles gaps : List ℕ) (s : Side) (k e c top top′ : ℕ) → top′ ≡ top → Hanging t roles gaps s k e c top → Hanging t roles gaps s k e c top′
-hanging-as t roles gaps s k e c top top′ q h = subst (Hanging t roles gaps s k e c) (sym q) h
+pub hanging-as : (t roles widest : List ℕ) (s : Side) (k e c top top′ : ℕ) → top′ ≡ top → Hanging t roles widest s k e c top → Hanging t roles widest s k e c top′
+hanging-as t roles widest s k e c top top′ q h = subst (Hanging t roles widest s k e c) (sym q) h
 
 -- ---- roles by the code's tests
 
@@ -61,12 +61,12 @@ ordinary-is knee e f = cc
 ordinary-is ordinary e f = refl
 ordinary-is switch e f = cc
 
-module _ (t roles gaps : List ℕ) (w : Walk) (spine hung : ℕ) (h : Side) (f : Forked t (sideOf (w .mirrored)) (w .at) spine hung h) where
+module _ (t roles widest : List ℕ) (w : Walk) (spine hung : ℕ) (h : Side) (f : Forked t (sideOf (w .mirrored)) (w .at) spine hung h) where
   abbrev s : Side
   s = sideOf (w .mirrored)
 
   abbrev a : Side
-  a = handOf w
+  a = handAt w
 
   abbrev S : Tree
   S = treeAt t hung
@@ -87,49 +87,49 @@ module _ (t roles gaps : List ℕ) (w : Walk) (spine hung : ℕ) (h : Side) (f :
   counts : (k : ℕ) → count k (nodes (treeAt t (w .at))) ≡ same k (w .at) + (count k (nodes S) + count k (nodes R))
   counts k = ap (λ (T : Tree). count k (nodes T)) tree-here ∙ count-over k (w .at) h S R
 
-  here : (o : Role) → Going t roles gaps o w → Ready roles gaps (w .gap) a (w .edge) o (w .lowest) (w .row) Q (hangs (w .at) h S ∷ spineOn s R)
-  here o g = subst (Ready roles gaps (w .gap) a (w .edge) o (w .lowest) (w .row) Q) (f .forks) (g .ready)
+  here : (o : Role) → Going t roles widest o w → Ready roles widest (w .widest) a (w .edge) o (w .lowest) (w .row) Q (hangs (w .at) h S ∷ spineOn s R)
+  here o g = subst (Ready roles widest (w .widest) a (w .edge) o (w .lowest) (w .row) Q) (f .forks) (g .ready)
 
-  apart : (o : Role) → Going t roles gaps o w → Disjoint S (spineTree (spineOn s R))
+  apart : (o : Role) → Going t roles widest o w → Disjoint S (spineTree (spineOn s R))
   apart o g = rw (tree-spine s R) (λ k. omega (arith, g .once k, counts k))
 
-  apart-pending : (o : Role) → Going t roles gaps o w → Disjoint Q (spineTree (spineOn s R))
+  apart-pending : (o : Role) → Going t roles widest o w → Disjoint Q (spineTree (spineOn s R))
   apart-pending o g = rw (tree-spine s R) (λ k. omega (arith, g .once k, counts k))
 
   -- The role that is kept for the node is the walk's.
-  kept-role : (o : Role) → Going t roles gaps o w → getD roles (w .at) 0 ≡ codeOf a o
+  kept-role : (o : Role) → Going t roles widest o w → getD roles (w .at) 0 ≡ codeOf a o
   kept-role o g = along-role (here o g .along)
 
-  role-is : (c : Coded) (q o : Role) → getD roles (w .at) 0 ≡ codeOf (sideOfCoded c) (roleOf c) → roleOf c ≡ q → Going t roles gaps o w → o ≡ q
+  role-is : (c : Coded) (q o : Role) → getD roles (w .at) 0 ≡ codeOf (sideOfCoded c) (roleOf c) → roleOf c ≡ q → Going t roles widest o w → o ≡ q
   role-is c q o e f g = code-same a (sideOfCoded c) o (roleOf c) (sym (kept-role o g) ∙ e) .1 ∙ f
 
-  pub role-below : (o : Role) → Going t roles gaps o w → getD roles (w .at) 0 < 6
+  pub role-below : (o : Role) → Going t roles widest o w → getD roles (w .at) 0 < 6
   role-below o g = omega (arith, kept-role o g, code-small a o)
 
-  pub going-as : (c : Coded) (q : Role) → getD roles (w .at) 0 ≡ codeOf (sideOfCoded c) (roleOf c) → roleOf c ≡ q → (o : Role) × Going t roles gaps o w → Going t roles gaps q w
-  going-as c q e f g = subst (λ (r : Role). Going t roles gaps r w) (role-is c q (g .0) e f (g .1)) (g .1)
+  pub going-as : (c : Coded) (q : Role) → getD roles (w .at) 0 ≡ codeOf (sideOfCoded c) (roleOf c) → roleOf c ≡ q → (o : Role) × Going t roles widest o w → Going t roles widest q w
+  going-as c q e f g = subst (λ (r : Role). Going t roles widest r w) (role-is c q (g .0) e f (g .1)) (g .1)
 
-  pub stepped-for : (c : Coded) (q : Role) → getD roles (w .at) 0 ≡ codeOf (sideOfCoded c) (roleOf c) → roleOf c ≡ q → (p : List ℕ) (w′ : Walk) (p′ : List ℕ) → Stepped t roles gaps q w p w′ p′ →
-      (o : Role) → Going t roles gaps o w → Stepped t roles gaps o w p w′ p′
-  stepped-for c q e f p w′ p′ d o g = subst (λ (r : Role). Stepped t roles gaps r w p w′ p′) (sym (role-is c q o e f g)) d
+  pub stepped-for : (c : Coded) (q : Role) → getD roles (w .at) 0 ≡ codeOf (sideOfCoded c) (roleOf c) → roleOf c ≡ q → (p : List ℕ) (w′ : Walk) (p′ : List ℕ) → Stepped t roles widest q w p w′ p′ →
+      (o : Role) → Going t roles widest o w → Stepped t roles widest o w p w′ p′
+  stepped-for c q e f p w′ p′ d o g = subst (λ (r : Role). Stepped t roles widest r w p w′ p′) (sym (role-is c q o e f g)) d
 
   -- From what is left at the next node, with Z pending.
   went : (o o′ : Role) (row lowest pending : ℕ) (b : Bool) (edge : ℕ) (p p′ : List ℕ) (Z : Tree) → treeAt t pending ≡ Z → Named t pending →
       ((k : ℕ) → count k (nodes Z) + count k (nodes R) ≤ 1) → size Z ≤ size S + size Q →
-      Ready roles gaps (w .gap) (sideOf b) edge o′ lowest row Z (spineOn s R) →
-      finished (w .gap) (sideOf b) edge o′ lowest row Z (spineOn s R) p′ ≡ finished (w .gap) a (w .edge) o (w .lowest) (w .row) Q (hangs (w .at) h S ∷ spineOn s R) p →
+      Ready roles widest (w .widest) (sideOf b) edge o′ lowest row Z (spineOn s R) →
+      finished (w .widest) (sideOf b) edge o′ lowest row Z (spineOn s R) p′ ≡ finished (w .widest) a (w .edge) o (w .lowest) (w .row) Q (hangs (w .at) h S ∷ spineOn s R) p →
       bottom (sideOf b) o′ lowest row (heightOn (sideOf b) Z) (spineOn s R) ≡ bottom a o (w .lowest) (w .row) (heightOn a Q) (hangs (w .at) h S ∷ spineOn s R) →
-      Stepped t roles gaps o w p (walkTo w spine row lowest pending b edge) p′
+      Stepped t roles widest o w p (walkTo w spine row lowest pending b edge) p′
   went o o′ row lowest pending b edge p p′ Z e n c z r q d = record {
     role = o′;
     going = record { named = f .named-spine; named-pending = n; once = rw e c; ready = rw e r };
-    same = rw e (q ∙ ap (λ (ls : List SpineNode). finished (w .gap) a (w .edge) o (w .lowest) (w .row) Q ls p) (sym (f .forks)));
+    same = rw e (q ∙ ap (λ (ls : List SpineNode). finished (w .widest) a (w .edge) o (w .lowest) (w .row) Q ls p) (sym (f .forks)));
     as-deep = rw e (d ∙ ap (bottom a o (w .lowest) (w .row) (heightOn a Q)) (sym (f .forks)));
     fewer = omega (arith, f .sizes, ap size e);
     shorter = omega (arith, f .sizes);
   }
 
-  once-none : (o : Role) → Going t roles gaps o w → (k : ℕ) → count k (nodes none) + count k (nodes R) ≤ 1
+  once-none : (o : Role) → Going t roles widest o w → (k : ℕ) → count k (nodes none) + count k (nodes R) ≤ 1
   unfolding nodes count
   once-none o g k = omega (arith, g .once k, counts k)
 
@@ -138,55 +138,55 @@ module _ (t roles gaps : List ℕ) (w : Walk) (spine hung : ℕ) (h : Side) (f :
   none-less = omega arith
 
   -- A knee, its child hung on the far side.
-  pub stepped-far : (p : List ℕ) → far a h ≡ true → Going t roles gaps knee w →
-      Stepped t roles gaps knee w p (walkTo w spine (H + heightOn a S + 1) (H + heightOn a S) 0 (w .right) (w .edge)) (store (hungOn a (inwards a (w .edge) 1) (H + 1) S) (point (w .at) (w .edge) (w .row) p))
+  pub stepped-far : (p : List ℕ) → far a h ≡ true → Going t roles widest knee w →
+      Stepped t roles widest knee w p (walkTo w spine (H + heightOn a S + 1) (H + heightOn a S) 0 (w .right) (w .edge)) (store (hungOn a (inwards a (w .edge) 1) (H + 1) S) (point (w .at) (w .edge) (w .row) p))
   stepped-far p e g = went knee _ _ _ 0 (w .right) (w .edge) p _ none (tree-none t) (inl refl) (once-none knee g) none-less
-      (ready-far roles gaps (w .gap) a (w .edge) _ _ (w .at) h S Q _ e (here knee g))
-      (knee-far (w .gap) a (w .edge) _ _ (w .at) h S Q _ p (apart knee g) e) (bottom-far a h _ _ _ (w .at) S _ e)
+      (ready-far roles widest (w .widest) a (w .edge) _ _ (w .at) h S Q _ e (here knee g))
+      (knee-far (w .widest) a (w .edge) _ _ (w .at) h S Q _ p (apart knee g) e) (bottom-far a h _ _ _ (w .at) S _ e)
 
   -- A knee, its child on the near side: pending.
-  pub stepped-near : (p : List ℕ) → far a h ≡ false → Going t roles gaps knee w →
-      Stepped t roles gaps knee w p (walkTo w spine (H + 1) H hung (w .right) (w .edge)) (point (w .at) (w .edge) (w .row) p)
+  pub stepped-near : (p : List ℕ) → far a h ≡ false → Going t roles widest knee w →
+      Stepped t roles widest knee w p (walkTo w spine (H + 1) H hung (w .right) (w .edge)) (point (w .at) (w .edge) (w .row) p)
   stepped-near p e g = went knee _ _ _ hung (w .right) (w .edge) p _ S refl (f .named-hung) (λ k. omega (arith, g .once k, counts k)) (omega arith)
-      (ready-near roles gaps (w .gap) a (w .edge) _ _ (w .at) h S Q _ e (here knee g))
-      (knee-near (w .gap) a (w .edge) _ _ (w .at) h S Q _ p (apart knee g) e) (bottom-near a h _ _ _ (w .at) S _ e)
+      (ready-near roles widest (w .widest) a (w .edge) _ _ (w .at) h S Q _ e (here knee g))
+      (knee-near (w .widest) a (w .edge) _ _ (w .at) h S Q _ p (apart knee g) e) (bottom-near a h _ _ _ (w .at) S _ e)
 
-  pub stepped-ordinary : (p : List ℕ) → Going t roles gaps ordinary w →
-      Stepped t roles gaps ordinary w p (walkTo w spine (w .row + max 1 (heightOn a S)) (w .row + heightOn a S) (w .pending) (w .right) (w .edge))
+  pub stepped-ordinary : (p : List ℕ) → Going t roles widest ordinary w →
+      Stepped t roles widest ordinary w p (walkTo w spine (w .row + max 1 (heightOn a S)) (w .row + heightOn a S) (w .pending) (w .right) (w .edge))
       (store (hungOn a (inwards a (w .edge) 2) (w .row + 1) S) (point (w .at) (inwards a (w .edge) 1) (w .row) p))
   unfolding bottom
   stepped-ordinary p g = went ordinary _ _ _ (w .pending) (w .right) (w .edge) p _ Q refl (g .named-pending) (λ k. omega (arith, g .once k, counts k)) (omega arith)
-      (ready-ordinary roles gaps (w .gap) a (w .edge) _ _ (w .at) h S Q _ (here ordinary g))
-      (ordinary-on (w .gap) a (w .edge) _ _ (w .at) h S Q _ p (apart ordinary g)) refl
+      (ready-ordinary roles widest (w .widest) a (w .edge) _ _ (w .at) h S Q _ (here ordinary g))
+      (ordinary-on (w .widest) a (w .edge) _ _ (w .at) h S Q _ p (apart ordinary g)) refl
 
-  pub stepped-switch : (p : List ℕ) → Going t roles gaps switch w →
-      Stepped t roles gaps switch w p (walkTo w spine (w .row + 1) (w .row + heightOn a S + heightOn a Q) 0 (not (w .right)) (inwards a (w .edge) (w .gap + 2)))
+  pub stepped-switch : (p : List ℕ) → Going t roles widest switch w →
+      Stepped t roles widest switch w p (walkTo w spine (w .row + 1) (w .row + heightOn a S + heightOn a Q) 0 (not (w .right)) (inwards a (w .edge) (w .widest + 2)))
       (store (hungOn a (inwards a (w .edge) 1) (w .row + heightOn a S + 1) Q) (store (hungOn a (inwards a (w .edge) 1) (w .row + 1) S) (point (w .at) (inwards a (w .edge) 1) (w .row) p)))
   stepped-switch p g = went switch (roleNext (opposite a) switch (spineOn s R)) _ _ 0 (not (w .right)) _ p _ none (tree-none t) (inl refl) (once-none switch g) none-less
-      (rw (side-not (w .right)) (ready-switch roles gaps (w .gap) a (w .edge) _ _ (w .at) h S Q _ (here switch g)))
-      (rw (side-not (w .right)) (switch-over (w .gap) a (w .edge) _ _ (w .at) h S Q _ p (apart switch g) (at-switch-room (here switch g .rooms)) (apart-pending switch g)))
+      (rw (side-not (w .right)) (ready-switch roles widest (w .widest) a (w .edge) _ _ (w .at) h S Q _ (here switch g)))
+      (rw (side-not (w .right)) (switch-over (w .widest) a (w .edge) _ _ (w .at) h S Q _ p (apart switch g) (at-switch-room (here switch g .rooms)) (apart-pending switch g)))
       (rw (side-not (w .right)) (bottom-over a h _ _ _ (w .at) S _))
 
   -- ---- what is asked on the way
 
-  pub edge-knee : Going t roles gaps knee w → (w .edge < 65536) × (H + 1 ≤ 65536)
-  edge-knee g = (inside-edge a (w .edge) _ (inside-less 65536 a (w .edge) {v = 1} (omega arith) (at-knee-room (here knee g .rooms))), rows-knee roles gaps (w .gap) a (w .edge) _ _ (w .at) h S Q _ (here knee g))
+  pub edge-knee : Going t roles widest knee w → (w .edge < 65536) × (H + 1 ≤ 65536)
+  edge-knee g = (inside-edge a (w .edge) _ (inside-less 65536 a (w .edge) {v = 1} (omega arith) (at-knee-room (here knee g .rooms))), rows-knee roles widest (w .widest) a (w .edge) _ _ (w .at) h S Q _ (here knee g))
 
-  pub hanging-far : far a h ≡ true → Going t roles gaps knee w → Hanging t roles gaps a hung (w .edge) 1 (H + 1)
+  pub hanging-far : far a h ≡ true → Going t roles widest knee w → Hanging t roles widest a hung (w .edge) 1 (H + 1)
   hanging-far e g = record {
     named = f .named-hung;
     prepared = along-hung (here knee g .along);
     columns = at-knee-room (here knee g .rooms);
-    rows = omega (arith, rows-far roles gaps (w .gap) a (w .edge) _ _ (w .at) h S Q _ e (here knee g));
+    rows = omega (arith, rows-far roles widest (w .widest) a (w .edge) _ _ (w .at) h S Q _ e (here knee g));
   }
 
-  pub column-ordinary : Going t roles gaps ordinary w → Inside 65536 a (w .edge) (1 + 1)
+  pub column-ordinary : Going t roles widest ordinary w → Inside 65536 a (w .edge) (1 + 1)
   column-ordinary g = inside-less 65536 a (w .edge) (omega arith) (at-ordinary-room (here ordinary g .rooms))
 
-  pub rows-at-ordinary : Going t roles gaps ordinary w → w .row + heightOn a S + 1 ≤ 65536
-  rows-at-ordinary g = rows-ordinary roles gaps (w .gap) a (w .edge) _ _ (w .at) h S Q _ (here ordinary g)
+  pub rows-at-ordinary : Going t roles widest ordinary w → w .row + heightOn a S + 1 ≤ 65536
+  rows-at-ordinary g = rows-ordinary roles widest (w .widest) a (w .edge) _ _ (w .at) h S Q _ (here ordinary g)
 
-  pub hanging-ordinary : Going t roles gaps ordinary w → Hanging t roles gaps a hung (w .edge) 2 (w .row + 1)
+  pub hanging-ordinary : Going t roles widest ordinary w → Hanging t roles widest a hung (w .edge) 2 (w .row + 1)
   hanging-ordinary g = record {
     named = f .named-hung;
     prepared = along-hung (here ordinary g .along);
@@ -194,16 +194,16 @@ module _ (t roles gaps : List ℕ) (w : Walk) (spine hung : ℕ) (h : Side) (f :
     rows = omega (arith, rows-at-ordinary g);
   }
 
-  pub column-switch : Going t roles gaps switch w → (k : ℕ) → k ≤ w .gap + 2 → Inside 65536 a (w .edge) (k + 1)
+  pub column-switch : Going t roles widest switch w → (k : ℕ) → k ≤ w .widest + 2 → Inside 65536 a (w .edge) (k + 1)
   column-switch g k l = inside-less 65536 a (w .edge) (omega arith) (at-switch-room (here switch g .rooms))
 
-  pub gap-at-switch : Going t roles gaps switch w → w .gap + 2 + 1 ≤ 65536
-  gap-at-switch g = inside-count a (w .edge) _ (column-switch g (w .gap + 2) (omega arith))
+  pub widest-at-switch : Going t roles widest switch w → w .widest + 2 + 1 ≤ 65536
+  widest-at-switch g = inside-count a (w .edge) _ (column-switch g (w .widest + 2) (omega arith))
 
-  pub rows-at-switch : Going t roles gaps switch w → w .row + heightOn a S + heightOn a Q + 1 ≤ 65536
-  rows-at-switch g = rows-switch roles gaps (w .gap) a (w .edge) _ _ (w .at) h S Q _ (here switch g)
+  pub rows-at-switch : Going t roles widest switch w → w .row + heightOn a S + heightOn a Q + 1 ≤ 65536
+  rows-at-switch g = rows-switch roles widest (w .widest) a (w .edge) _ _ (w .at) h S Q _ (here switch g)
 
-  pub hanging-switch : Going t roles gaps switch w → Hanging t roles gaps a hung (w .edge) 1 (w .row + 1)
+  pub hanging-switch : Going t roles widest switch w → Hanging t roles widest a hung (w .edge) 1 (w .row + 1)
   hanging-switch g = record {
     named = f .named-hung;
     prepared = along-hung (here switch g .along);
@@ -211,34 +211,34 @@ module _ (t roles gaps : List ℕ) (w : Walk) (spine hung : ℕ) (h : Side) (f :
     rows = omega (arith, rows-at-switch g);
   }
 
-  pub hanging-pending : Going t roles gaps switch w → Hanging t roles gaps a (w .pending) (w .edge) 1 (w .row + 1 + heightOn a S)
+  pub hanging-pending : Going t roles widest switch w → Hanging t roles widest a (w .pending) (w .edge) 1 (w .row + 1 + heightOn a S)
   hanging-pending g = record { named = g .named-pending; prepared = g .ready .prepared; columns = g .ready .spare; rows = omega (arith, rows-at-switch g) }
 
   -- ---- what the code leaves
 
-  stepped-as : (o : Role) (p : List ℕ) (w₁ w₂ : Walk) (p₁ p₂ : List ℕ) → w₂ ≡ w₁ → p₂ ≡ p₁ → Stepped t roles gaps o w p w₁ p₁ → Stepped t roles gaps o w p w₂ p₂
-  stepped-as o p w₁ w₂ p₁ p₂ d e m = subst₂ (Stepped t roles gaps o w p) (sym d) (sym e) m
+  stepped-as : (o : Role) (p : List ℕ) (w₁ w₂ : Walk) (p₁ p₂ : List ℕ) → w₂ ≡ w₁ → p₂ ≡ p₁ → Stepped t roles widest o w p w₁ p₁ → Stepped t roles widest o w p w₂ p₂
+  stepped-as o p w₁ w₂ p₁ p₂ d e m = subst₂ (Stepped t roles widest o w p) (sym d) (sym e) m
 
   pub after-far : (p p₁ p₂ : List ℕ) (low below : ℕ) (w′ : Walk) → low ≡ H → p₁ ≡ point (w .at) (w .edge) (w .row) p → Hung t a hung (inwards a (w .edge) 1) (low + 1) p₁ below p₂ →
-      w′ ≡ walkTo w spine below (below - 1) 0 (w .right) (w .edge) → far a h ≡ true → Going t roles gaps knee w → Stepped t roles gaps knee w p w′ p₂
+      w′ ≡ walkTo w spine below (below - 1) 0 (w .right) (w .edge) → far a h ≡ true → Going t roles widest knee w → Stepped t roles widest knee w p w′ p₂
   after-far p p₁ p₂ low below w′ l q d v x g =
       stepped-as knee p _ _ _ _ (v ∙ ap₂ (λ (m n : ℕ). walkTo w spine m n 0 (w .right) (w .edge)) (omega (arith, d .ends)) (omega (arith, d .ends)))
       (d .stored ∙ cc) (stepped-far p x g)
 
   pub after-near : (p p₁ : List ℕ) (low : ℕ) (w′ : Walk) → low ≡ H → p₁ ≡ point (w .at) (w .edge) (w .row) p → w′ ≡ walkTo w spine (low + 1) low hung (w .right) (w .edge) →
-      far a h ≡ false → Going t roles gaps knee w → Stepped t roles gaps knee w p w′ p₁
+      far a h ≡ false → Going t roles widest knee w → Stepped t roles widest knee w p w′ p₁
   after-near p p₁ low w′ l q v x g = stepped-as knee p _ _ _ _ (v ∙ ap (λ (m : ℕ). walkTo w spine (m + 1) m hung (w .right) (w .edge)) l) q (stepped-near p x g)
 
   pub after-ordinary : (p p₁ p₂ : List ℕ) (column below next : ℕ) (w′ : Walk) → column ≡ inwards a (w .edge) 1 → p₁ ≡ point (w .at) column (w .row) p →
       Hung t a hung (inwards a (w .edge) 2) (w .row + 1) p₁ below p₂ → next ≡ max (w .row + 1) (below - 1) → w′ ≡ walkTo w spine next (below - 1) (w .pending) (w .right) (w .edge) →
-      Going t roles gaps ordinary w → Stepped t roles gaps ordinary w p w′ p₂
+      Going t roles widest ordinary w → Stepped t roles widest ordinary w p w′ p₂
   after-ordinary p p₁ p₂ column below next w′ c q d n v g =
       stepped-as ordinary p _ _ _ _ (v ∙ ap₂ (λ (m n : ℕ). walkTo w spine m n (w .pending) (w .right) (w .edge)) (omega (arith, d .ends)) (omega (arith, d .ends)))
       (d .stored ∙ cc) (stepped-ordinary p g)
 
   pub after-switch : (p p₁ p₂ p₃ : List ℕ) (column under below other : ℕ) → column ≡ inwards a (w .edge) 1 → p₁ ≡ point (w .at) column (w .row) p → Hung t a hung (inwards a (w .edge) 1) (w .row + 1) p₁ under p₂ →
-      Hung t a (w .pending) (inwards a (w .edge) 1) under p₂ below p₃ → other ≡ inwards a (w .edge) (w .gap + 2) → Going t roles gaps switch w →
-      Stepped t roles gaps switch w p (walkTo w spine (w .row + 1) (below - 1) 0 (not (w .right)) other) p₃
+      Hung t a (w .pending) (inwards a (w .edge) 1) under p₂ below p₃ → other ≡ inwards a (w .edge) (w .widest + 2) → Going t roles widest switch w →
+      Stepped t roles widest switch w p (walkTo w spine (w .row + 1) (below - 1) 0 (not (w .right)) other) p₃
   after-switch p p₁ p₂ p₃ column under below other c q d d′ o g =
       stepped-as switch p _ _ _ _ (ap₂ (λ (m n : ℕ). walkTo w spine (w .row + 1) m 0 (not (w .right)) n) (omega (arith, d .ends, d′ .ends)) o)
       (d′ .stored ∙ cc (under-there)) (stepped-switch p g)

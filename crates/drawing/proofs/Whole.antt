@@ -7,24 +7,23 @@ use native.Mathlib.Omega.{arith}
 use lib.Dec.{T}
 use lib.ListN.{length, getD}
 use Rattle.table.specs.Lists.{member}
-use Rattle.table.specs.Table.{left, records, rootOf, chain}
+use Rattle.table.specs.Table.{left, records, rootOf, chain, Chained}
 use Rattle.table.specs.Tree.{Tree, none, size, treeAt, tree}
 use Rattle.table.specs.Refusal.{fault, refusal}
 use Rattle.table.specs.declared.Reading.{Reading}
-use Rattle.table.specs.Reading.{Sized as Listed, ReadOf}
-use Rattle.table.proofs.Chain.{Chained}
+use Rattle.table.specs.inner.Reading.{Read, ReadOf}
 use Rattle.table.proofs.Accepted.{refusal-none, tree-none, records-bounds, chain-length, root, size-chain}
 use Rattle.layout.specs.Layout.{Layout, width, height}
 use Rattle.layout.specs.Drawing.{draw, drawing}
-use Rattle.layout.specs.Held.{facing, hungOn, heightOn, widthOn}
+use Rattle.layout.specs.inner.Held.{facing, hungOn, heightOn, widthOn}
 use Rattle.layout.proofs.Held.{height-size, draw-hung}
 use Rattle.layout.proofs.Width.{width-small}
-use Rattle.measure.specs.Sized.{Named, Sized}
-use Rattle.measure.specs.Prepared.{Prepared}
+use Rattle.measure.specs.inner.Sized.{Named, Sized}
+use Rattle.measure.specs.inner.Prepared.{Prepared}
 use Rattle.drawing.specs.declared.Plan.{Plan}
 use Rattle.drawing.specs.declared.Drawn.{Drawn}
 use Rattle.drawing.specs.Answer.{store, emptyPlan, planOf, drawnOf, placedIn}
-use Rattle.drawing.specs.Placing.{Hanging, Hung}
+use Rattle.drawing.specs.inner.Placing.{Hanging, Hung}
 use Rattle.drawing.proofs.Answered.{accepted, refused}
 
 module _ (t : List ℕ) (ok : fault t ≡ 0) (k : ℕ) (e : k ≡ rootOf t) where
@@ -34,8 +33,8 @@ module _ (t : List ℕ) (ok : fault t ≡ 0) (k : ℕ) (e : k ≡ rootOf t) wher
   few-below : size (treeAt t k) ≤ 4096
   few-below = omega (arith, ap (λ (n : ℕ). size (treeAt t n)) e, size-chain t ok, few-nodes)
 
-  pub hanging-root : (roles gaps : List ℕ) → Chained t (rootOf t) → Prepared roles gaps left (treeAt t k) → Hanging t roles gaps left k 0 0 0
-  hanging-root roles gaps c p =
+  pub hanging-root : (roles widest : List ℕ) → Chained t (rootOf t) → Prepared roles widest left (treeAt t k) → Hanging t roles widest left k 0 0 0
+  hanging-root roles widest c p =
       record { named = inr (rw e c); prepared = p; columns = omega (arith, width-small left (treeAt t k) few-below); rows = omega (arith, height-size left (treeAt t k), few-below) }
 
   -- Nodes, width and height are 16-bit numbers.
@@ -55,7 +54,7 @@ plan-drawn t p p′ k n w h e f g d = (
 )
 
 -- What reading leaves for measuring and placing.
-pub sizes-listed : (t : List ℕ) (n : ℕ) (list sizes : List ℕ) → Listed t n list sizes → length sizes ≡ 4097 → Sized t sizes
+pub sizes-listed : (t : List ℕ) (n : ℕ) (list sizes : List ℕ) → Read t n list sizes → length sizes ≡ 4097 → Sized t sizes
 unfolding size
 sizes-listed t n list sizes l e = record { long = e; sized = at }
   where

@@ -1,3 +1,3 @@
--- The drawer's whole answer; then, for its inner functions only, what is left to place.
+-- The drawer's whole answer.
 pub mod Answer
-pub mod Placing
+pub mod inner

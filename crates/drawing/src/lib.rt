@@ -7,14 +7,12 @@ use table::read;
 use table::words::left;
 ghost use mathlib.Core.Path.{_≡_};
 ghost use Prim.Native.Nat.{_*_, _≤_};
-ghost use lib.Dec.{T};
 ghost use lib.ListN.{length};
-ghost use Rattle.table.specs.Lists.{member};
-ghost use Rattle.table.specs.Table.{records, rootOf, chain as chainOf};
+ghost use Rattle.table.specs.Table.{records, rootOf, chain as chainOf, Chained};
 ghost use Rattle.table.specs.Tree.{tree};
 ghost use Rattle.table.specs.Refusal.{fault};
 ghost use Rattle.layout.specs.Drawing.{draw as drawing};
-ghost use Rattle.measure.specs.Sized.{Sized};
+ghost use Rattle.measure.specs.inner.Sized.{Sized};
 ghost use Rattle.drawing.specs.Answer.{store, planOf, drawnOf, placedIn};
 
 // The extent of a drawing.
@@ -48,7 +46,7 @@ fn plan_of(
     nodes: usize,
 ) -> Plan
     requires { ⌜ fault (now table) ≡ 0 ⌝ }
-    requires { ⌜ T (member (rootOf (now table)) (chainOf (now table))) ⌝ }
+    requires { ⌜ Chained (now table) (rootOf (now table)) ⌝ }
     requires { ⌜ Sized (now table) (now sizes) ⌝ }
     requires { ⌜ length (now roles) ≡ 4097 ⌝ }
     requires { ⌜ 2 * records (now table) ≤ length (now placements) ⌝ }
@@ -56,9 +54,9 @@ fn plan_of(
     ensures { λ r. ⌜ (r ≡ planOf (now (table .entry))) × (now (placements .exit) ≡ store (drawing (tree (now (table .entry)))) (now (placements .entry))) ⌝ }
 {
     let root = left(table, 0);
-    let mut gaps = [0u16; 4097];
-    let width = prepare(table, sizes, roles, &mut gaps, root);
-    let height = draw_tree(table, sizes, roles, &gaps, placements, root);
+    let mut widest = [0u16; 4097];
+    let width = prepare(table, sizes, roles, &mut widest, root);
+    let height = draw_tree(table, sizes, roles, &widest, placements, root);
     Plan {
         nodes: nodes as u16,
         width: width as u16,

@@ -1,6 +1,7 @@
-// Placing: the points of a drawing, in the columns and rows of the whole plan. Roles and gaps are read; placing chooses none.
+// Placing: the points of a drawing, in the columns and rows of the whole plan. The roles and W of each spine are read; placing chooses none.
 use measure::Fork;
 use measure::fork_at;
+use measure::most;
 use measure::roles::Role;
 use measure::roles::is_switch;
 use measure::roles::role_at;
@@ -9,10 +10,10 @@ ghost use Prim.Native.Nat.{_+_, _*_, _<_, max};
 ghost use lib.ListN.{length};
 ghost use Rattle.table.specs.Table.{left, right};
 ghost use Rattle.layout.specs.Spine.{Role as LayoutRole, knee, ordinary, switch};
-ghost use Rattle.layout.specs.Held.{inwards as inwardsOf, far, Inside};
-ghost use Rattle.measure.specs.Forked.{sideOf, Forked};
-ghost use Rattle.measure.specs.Roles.{roleOf};
-ghost use Rattle.drawing.specs.Placing.{isKnee, point, handOf, walkTo, Given, Hanging, Hung, Going, Stepped};
+ghost use Rattle.layout.specs.inner.Held.{inwards as inwardsOf, far, Inside};
+ghost use Rattle.measure.specs.inner.Forked.{sideOf, Forked};
+ghost use Rattle.measure.specs.inner.Roles.{roleOf};
+ghost use Rattle.drawing.specs.inner.Placing.{isKnee, point, handAt, walkTo, Given, Hanging, Hung, Going, Stepped};
 
 // A walk along the spine of a drawing: the next node and its row, the lowest row used so far, the pending child, 0 for none; the hand that the node
 // is on, and its edge; W of the spine, and whether its drawing is on the right side.
@@ -23,14 +24,8 @@ pub struct Walk {
     pub pending: usize,
     pub right: bool,
     pub edge: usize,
-    pub gap: usize,
+    pub widest: usize,
     pub mirrored: bool,
-}
-
-fn greater(a: usize, b: usize) -> usize
-    ensures { λ r. ⌜ r ≡ max a b ⌝ }
-{
-    if a < b { b } else { a }
 }
 
 // k columns inwards from the edge of a hand.
@@ -82,7 +77,7 @@ fn onward(w: Walk, at: usize, row: usize, lowest: usize, pending: usize) -> Walk
         pending,
         right: w.right,
         edge: w.edge,
-        gap: w.gap,
+        widest: w.widest,
         mirrored: w.mirrored,
     }
 }
@@ -92,21 +87,21 @@ fn at_knee(
     table: &[u8],
     sizes: &[u16],
     roles: &[u16],
-    gaps: &[u16],
+    widest: &[u16],
     placements: &mut [u16],
     fork: Fork,
     w: Walk,
 ) -> Walk
-    requires { ⌜ Given (now table) (now sizes) (now roles) (now gaps) (now placements) ⌝ }
-    requires { ⌜ Going (now table) (now roles) (now gaps) knee w ⌝ }
+    requires { ⌜ Given (now table) (now sizes) (now roles) (now widest) (now placements) ⌝ }
+    requires { ⌜ Going (now table) (now roles) (now widest) knee w ⌝ }
     requires { ⌜ Forked (now table) (sideOf (w .mirrored)) (w .at) (fork .spine) (fork .hung) (sideOf (fork .«hung_right»)) ⌝ }
-    ensures { λ r. ⌜ Stepped (now (table .entry)) (now (roles .entry)) (now (gaps .entry)) knee w (now (placements .entry)) r (now (placements .exit)) ⌝ }
+    ensures { λ r. ⌜ Stepped (now (table .entry)) (now (roles .entry)) (now (widest .entry)) knee w (now (placements .entry)) r (now (placements .exit)) ⌝ }
 {
     set_point(placements, w.at, w.edge, w.row);
-    let lowest = greater(w.lowest, w.row);
+    let lowest = most(w.lowest, w.row);
     let row = lowest + 1;
     if is_far(w.right, fork.hung_right) {
-        let below = draw_hung(table, sizes, roles, gaps, placements, w, fork.hung, 1, row);
+        let below = draw_hung(table, sizes, roles, widest, placements, w, fork.hung, 1, row);
         return onward(w, fork.spine, below, below - 1, 0);
     }
     onward(w, fork.spine, row, lowest, fork.hung)
@@ -117,21 +112,21 @@ fn at_ordinary(
     table: &[u8],
     sizes: &[u16],
     roles: &[u16],
-    gaps: &[u16],
+    widest: &[u16],
     placements: &mut [u16],
     fork: Fork,
     w: Walk,
 ) -> Walk
-    requires { ⌜ Given (now table) (now sizes) (now roles) (now gaps) (now placements) ⌝ }
-    requires { ⌜ Going (now table) (now roles) (now gaps) ordinary w ⌝ }
+    requires { ⌜ Given (now table) (now sizes) (now roles) (now widest) (now placements) ⌝ }
+    requires { ⌜ Going (now table) (now roles) (now widest) ordinary w ⌝ }
     requires { ⌜ Forked (now table) (sideOf (w .mirrored)) (w .at) (fork .spine) (fork .hung) (sideOf (fork .«hung_right»)) ⌝ }
-    ensures { λ r. ⌜ Stepped (now (table .entry)) (now (roles .entry)) (now (gaps .entry)) ordinary w (now (placements .entry)) r (now (placements .exit)) ⌝ }
+    ensures { λ r. ⌜ Stepped (now (table .entry)) (now (roles .entry)) (now (widest .entry)) ordinary w (now (placements .entry)) r (now (placements .exit)) ⌝ }
 {
     set_point(placements, w.at, inwards(w.right, w.edge, 1), w.row);
     let row = w.row + 1;
-    let below = draw_hung(table, sizes, roles, gaps, placements, w, fork.hung, 2, row);
+    let below = draw_hung(table, sizes, roles, widest, placements, w, fork.hung, 2, row);
     let lowest = below - 1;
-    onward(w, fork.spine, greater(row, lowest), lowest, w.pending)
+    onward(w, fork.spine, most(row, lowest), lowest, w.pending)
 }
 
 // Step 6: what is pending goes under the hung drawing, and the walk goes over to the other hand.
@@ -139,22 +134,22 @@ fn at_switch(
     table: &[u8],
     sizes: &[u16],
     roles: &[u16],
-    gaps: &[u16],
+    widest: &[u16],
     placements: &mut [u16],
     fork: Fork,
     w: Walk,
 ) -> Walk
-    requires { ⌜ Given (now table) (now sizes) (now roles) (now gaps) (now placements) ⌝ }
-    requires { ⌜ Going (now table) (now roles) (now gaps) switch w ⌝ }
+    requires { ⌜ Given (now table) (now sizes) (now roles) (now widest) (now placements) ⌝ }
+    requires { ⌜ Going (now table) (now roles) (now widest) switch w ⌝ }
     requires { ⌜ Forked (now table) (sideOf (w .mirrored)) (w .at) (fork .spine) (fork .hung) (sideOf (fork .«hung_right»)) ⌝ }
-    ensures { λ r. ⌜ Stepped (now (table .entry)) (now (roles .entry)) (now (gaps .entry)) switch w (now (placements .entry)) r (now (placements .exit)) ⌝ }
+    ensures { λ r. ⌜ Stepped (now (table .entry)) (now (roles .entry)) (now (widest .entry)) switch w (now (placements .entry)) r (now (placements .exit)) ⌝ }
 {
     set_point(placements, w.at, inwards(w.right, w.edge, 1), w.row);
     let row = w.row + 1;
-    let foot = draw_hung(table, sizes, roles, gaps, placements, w, fork.hung, 1, row);
-    let below = draw_hung(table, sizes, roles, gaps, placements, w, w.pending, 1, foot);
+    let foot = draw_hung(table, sizes, roles, widest, placements, w, fork.hung, 1, row);
+    let below = draw_hung(table, sizes, roles, widest, placements, w, w.pending, 1, foot);
     let lowest = below - 1;
-    let edge = inwards(w.right, w.edge, w.gap + 2);
+    let edge = inwards(w.right, w.edge, w.widest + 2);
     Walk {
         at: fork.spine,
         row,
@@ -162,7 +157,7 @@ fn at_switch(
         pending: 0,
         right: !w.right,
         edge,
-        gap: w.gap,
+        widest: w.widest,
         mirrored: w.mirrored,
     }
 }
@@ -172,24 +167,24 @@ fn step(
     table: &[u8],
     sizes: &[u16],
     roles: &[u16],
-    gaps: &[u16],
+    widest: &[u16],
     placements: &mut [u16],
     w: Walk,
 ) -> Walk
-    requires { ⌜ Given (now table) (now sizes) (now roles) (now gaps) (now placements) ⌝ }
-    requires { ⌜ ((o : LayoutRole) × Going (now table) (now roles) (now gaps) o w) ⌝ }
+    requires { ⌜ Given (now table) (now sizes) (now roles) (now widest) (now placements) ⌝ }
+    requires { ⌜ ((o : LayoutRole) × Going (now table) (now roles) (now widest) o w) ⌝ }
     requires { ⌜ 0 < w .at ⌝ }
-    ensures { λ r. ⌜ ((o : LayoutRole) → Going (now (table .entry)) (now (roles .entry)) (now (gaps .entry)) o w → Stepped (now (table .entry)) (now (roles .entry)) (now (gaps .entry)) o w (now (placements .entry)) r (now (placements .exit))) ⌝ }
+    ensures { λ r. ⌜ ((o : LayoutRole) → Going (now (table .entry)) (now (roles .entry)) (now (widest .entry)) o w → Stepped (now (table .entry)) (now (roles .entry)) (now (widest .entry)) o w (now (placements .entry)) r (now (placements .exit))) ⌝ }
 {
     let fork = fork_at(table, sizes, w.at, w.mirrored);
     let role = role_at(roles, w.at);
     if is_knee(role) {
-        return at_knee(table, sizes, roles, gaps, placements, fork, w);
+        return at_knee(table, sizes, roles, widest, placements, fork, w);
     }
     if is_switch(role) {
-        return at_switch(table, sizes, roles, gaps, placements, fork, w);
+        return at_switch(table, sizes, roles, widest, placements, fork, w);
     }
-    at_ordinary(table, sizes, roles, gaps, placements, fork, w)
+    at_ordinary(table, sizes, roles, widest, placements, fork, w)
 }
 
 // From the first node to the end of a spine. Step 8: what is still pending goes below all. Answers the first row below the drawing.
@@ -197,19 +192,18 @@ fn draw_spine(
     table: &[u8],
     sizes: &[u16],
     roles: &[u16],
-    gaps: &[u16],
+    widest: &[u16],
     placements: &mut [u16],
     root: usize,
     edge: usize,
     top: usize,
     mirrored: bool,
 ) -> usize
-    requires { ⌜ Given (now table) (now sizes) (now roles) (now gaps) (now placements) ⌝ }
-    requires { ⌜ Hanging (now table) (now roles) (now gaps) (sideOf mirrored) root edge 0 top ⌝ }
+    requires { ⌜ Given (now table) (now sizes) (now roles) (now widest) (now placements) ⌝ }
+    requires { ⌜ Hanging (now table) (now roles) (now widest) (sideOf mirrored) root edge 0 top ⌝ }
     requires { ⌜ 0 < root ⌝ }
     ensures { λ r. ⌜ Hung (now (table .entry)) (sideOf mirrored) root edge top (now (placements .entry)) r (now (placements .exit)) ⌝ }
 {
-    let gap = gaps[root] as usize;
     let mut w = Walk {
         at: root,
         row: top,
@@ -217,14 +211,14 @@ fn draw_spine(
         pending: 0,
         right: mirrored,
         edge,
-        gap,
+        widest: widest[root] as usize,
         mirrored,
     };
     while w.at != 0 {
-        w = step(table, sizes, roles, gaps, placements, w);
+        w = step(table, sizes, roles, widest, placements, w);
     }
     let row = w.lowest + 1;
-    draw_hung(table, sizes, roles, gaps, placements, w, w.pending, 1, row)
+    draw_hung(table, sizes, roles, widest, placements, w, w.pending, 1, row)
 }
 
 // A drawing on the left side, by these steps. Answers the first row below it.
@@ -232,14 +226,14 @@ fn draw_left(
     table: &[u8],
     sizes: &[u16],
     roles: &[u16],
-    gaps: &[u16],
+    widest: &[u16],
     placements: &mut [u16],
     root: usize,
     edge: usize,
     top: usize,
 ) -> usize
-    requires { ⌜ Given (now table) (now sizes) (now roles) (now gaps) (now placements) ⌝ }
-    requires { ⌜ Hanging (now table) (now roles) (now gaps) left root edge 0 top ⌝ }
+    requires { ⌜ Given (now table) (now sizes) (now roles) (now widest) (now placements) ⌝ }
+    requires { ⌜ Hanging (now table) (now roles) (now widest) left root edge 0 top ⌝ }
     requires { ⌜ 0 < root ⌝ }
     ensures { λ r. ⌜ Hung (now (table .entry)) left root edge top (now (placements .entry)) r (now (placements .exit)) ⌝ }
 {
@@ -247,7 +241,7 @@ fn draw_left(
         table,
         sizes,
         roles,
-        gaps,
+        widest,
         placements,
         root,
         edge,
@@ -261,18 +255,18 @@ fn draw_right(
     table: &[u8],
     sizes: &[u16],
     roles: &[u16],
-    gaps: &[u16],
+    widest: &[u16],
     placements: &mut [u16],
     root: usize,
     edge: usize,
     top: usize,
 ) -> usize
-    requires { ⌜ Given (now table) (now sizes) (now roles) (now gaps) (now placements) ⌝ }
-    requires { ⌜ Hanging (now table) (now roles) (now gaps) right root edge 0 top ⌝ }
+    requires { ⌜ Given (now table) (now sizes) (now roles) (now widest) (now placements) ⌝ }
+    requires { ⌜ Hanging (now table) (now roles) (now widest) right root edge 0 top ⌝ }
     requires { ⌜ 0 < root ⌝ }
     ensures { λ r. ⌜ Hung (now (table .entry)) right root edge top (now (placements .entry)) r (now (placements .exit)) ⌝ }
 {
-    draw_spine(table, sizes, roles, gaps, placements, root, edge, top, true)
+    draw_spine(table, sizes, roles, widest, placements, root, edge, top, true)
 }
 
 // A subtree, 0 for none, on the side of the walk's hand: its edge is at that hand's column, its top at the row. Answers the first row below it.
@@ -280,25 +274,25 @@ fn draw_hung(
     table: &[u8],
     sizes: &[u16],
     roles: &[u16],
-    gaps: &[u16],
+    widest: &[u16],
     placements: &mut [u16],
     w: Walk,
     child: usize,
     column: usize,
     top: usize,
 ) -> usize
-    requires { ⌜ Given (now table) (now sizes) (now roles) (now gaps) (now placements) ⌝ }
-    requires { ⌜ Hanging (now table) (now roles) (now gaps) (handOf w) child (w .edge) column top ⌝ }
-    ensures { λ r. ⌜ Hung (now (table .entry)) (handOf w) child (inwardsOf (handOf w) (w .edge) column) top (now (placements .entry)) r (now (placements .exit)) ⌝ }
+    requires { ⌜ Given (now table) (now sizes) (now roles) (now widest) (now placements) ⌝ }
+    requires { ⌜ Hanging (now table) (now roles) (now widest) (handAt w) child (w .edge) column top ⌝ }
+    ensures { λ r. ⌜ Hung (now (table .entry)) (handAt w) child (inwardsOf (handAt w) (w .edge) column) top (now (placements .entry)) r (now (placements .exit)) ⌝ }
 {
     if child == 0 {
         return top;
     }
     let edge = inwards(w.right, w.edge, column);
     if w.right {
-        draw_right(table, sizes, roles, gaps, placements, child, edge, top)
+        draw_right(table, sizes, roles, widest, placements, child, edge, top)
     } else {
-        draw_left(table, sizes, roles, gaps, placements, child, edge, top)
+        draw_left(table, sizes, roles, widest, placements, child, edge, top)
     }
 }
 
@@ -307,12 +301,12 @@ pub fn draw_tree(
     table: &[u8],
     sizes: &[u16],
     roles: &[u16],
-    gaps: &[u16],
+    widest: &[u16],
     placements: &mut [u16],
     root: usize,
 ) -> usize
-    requires { ⌜ Given (now table) (now sizes) (now roles) (now gaps) (now placements) ⌝ }
-    requires { ⌜ Hanging (now table) (now roles) (now gaps) left root 0 0 0 ⌝ }
+    requires { ⌜ Given (now table) (now sizes) (now roles) (now widest) (now placements) ⌝ }
+    requires { ⌜ Hanging (now table) (now roles) (now widest) left root 0 0 0 ⌝ }
     ensures { λ r. ⌜ Hung (now (table .entry)) left root 0 0 (now (placements .entry)) r (now (placements .exit)) ⌝ }
 {
     let w = Walk {
@@ -322,8 +316,8 @@ pub fn draw_tree(
         pending: 0,
         right: false,
         edge: 0,
-        gap: 0,
+        widest: 0,
         mirrored: false,
     };
-    draw_hung(table, sizes, roles, gaps, placements, w, root, 0, 0)
+    draw_hung(table, sizes, roles, widest, placements, w, root, 0, 0)
 }

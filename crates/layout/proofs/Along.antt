@@ -10,11 +10,11 @@ use Rattle.table.specs.Tree.{Tree, size}
 use Rattle.layout.specs.Layout.{Layout, blank, placed, width, height, shift}
 use Rattle.layout.specs.Spine.{knee, ordinary, switch}
 use Rattle.layout.specs.Drawing.{Part, part, join, place}
-use Rattle.layout.proofs.Clean.{Rooted, rooted}
+use Rattle.layout.proofs.Clean.{HasRoot, a-root}
 use Rattle.layout.proofs.Points.{PointOf, bare, UntangledAt, order-at, point-rooted, rooted-high}
 use Rattle.layout.proofs.Motions.{untangled-shift, shift-within, width-shift, root-shift}
 use Rattle.layout.proofs.Rows.{shape, count, HoldsRow}
-use Rattle.layout.proofs.Steps.{Hung, Run, Knee, OrderOn, step-knee-right, step-knee-left, step-ordinary, step-switch}
+use Rattle.layout.proofs.Steps.{HungRectangle, Run, Knee, OrderOn, step-knee-right, step-knee-left, step-ordinary, step-switch}
 
 -- What is proved of the drawing D of a tree S.
 pub record Drawn (S : Tree) (D : Layout) : Type 0 where
@@ -40,7 +40,7 @@ pub data Proper (W : ℕ) : Stretch → List Part → Type 0 where
   ended : {z : Stretch} → Proper W z []
   a-knee : {k : ℕ} {s : Side} {S : Tree} {D : Layout} {ps : List Part} → Drawn S D → width D ≤ W → Proper W run ps → Proper W turn (part knee k s D ∷ ps)
   an-ordinary : {k : ℕ} {s : Side} {S : Tree} {D : Layout} {ps : List Part} → Drawn S D → width D ≤ W → Beside s D → Proper W run ps → Proper W run (part ordinary k s D ∷ ps)
-  a-switch : {k : ℕ} {S : Tree} {D : Layout} {ps : List Part} → Drawn S D → width D ≤ W → Rooted D → Proper W turn ps → Proper W run (part switch k left D ∷ ps)
+  a-switch : {k : ℕ} {S : Tree} {D : Layout} {ps : List Part} → Drawn S D → width D ≤ W → HasRoot D → Proper W turn ps → Proper W run (part switch k left D ∷ ps)
 
 -- A knee is in a row used before; another node is in the lowest row used before, or in the next.
 abbrev pub Reached : Stretch → (H r : ℕ) → Type 0
@@ -49,11 +49,11 @@ Reached run H r = (H ≤ r) × (r ≤ H + 1)
 
 -- ---- the hung drawings
 
-some : (e t : ℕ) (D : Layout) → Rooted (shift e t D) → (1 ≤ width D) × (1 ≤ height D)
+some : (e t : ℕ) (D : Layout) → HasRoot (shift e t D) → (1 ≤ width D) × (1 ≤ height D)
 unfolding shift height width
-some e t (placed k P a b) rooted = (omega arith, omega arith)
+some e t (placed k P a b) a-root = (omega arith, omega arith)
 
-hung : (e t : ℕ) {S : Tree} {D : Layout} → Drawn S D → Hung e t (width D) (height D) (shift e t D)
+hung : (e t : ℕ) {S : Tree} {D : Layout} → Drawn S D → HungRectangle e t (width D) (height D) (shift e t D)
 hung e t {D} g = record {
   stands = record { untangled = untangled-shift e t (g .stands .untangled); root = root-shift e t D (g .stands .root) };
   wide = width-shift e t D;

@@ -10,9 +10,9 @@ use Rattle.table.specs.Table.{Side, left, right}
 use Rattle.layout.specs.Layout.{Layout, blank, placed, width, height, shift, flip}
 use Rattle.layout.specs.Spine.{SpineNode, hangs, opposite}
 use Rattle.layout.specs.Drawing.{join}
-use Rattle.layout.specs.Held.{inwards, put, Fit}
-use Rattle.layout.proofs.Clean.{onSide, Rooted, rooted, Node, root, below, top, point}
-use Rattle.layout.proofs.Points.{PointOf, pointOn, point-below, Within}
+use Rattle.layout.specs.inner.Held.{inwards, put, Fit}
+use Rattle.layout.proofs.Clean.{onSide, HasRoot, a-root, Node, root, below, top, point}
+use Rattle.layout.proofs.Points.{PointOf, pointOn, point-below, InWindow}
 use Rattle.layout.proofs.Motions.{shift-within}
 use Rattle.layout.proofs.Sides.{sideOn, same-node}
 
@@ -57,12 +57,12 @@ pub record SpineApart (ss : List Side) (L : Layout) : Type 0 where
   -- "the drawings of its hung subtrees occupy rows that no other drawing of that spine occupies"
   pub rows-apart : (x i j : ℕ) → OccupiesRow x (hungAt ss i L) → OccupiesRow x (hungAt ss j L) → i ≡ j
   -- "spine boxes lie outside their rectangles"
-  pub spine-outside : (i j : ℕ) (h : Rooted (spineAt ss i L)) → InRectangle (point (top h)) (hungAt ss j L) → ⊥
+  pub spine-outside : (i j : ℕ) (h : HasRoot (spineAt ss i L)) → InRectangle (point (top h)) (hungAt ss j L) → ⊥
 
 -- The form in which the argument goes: also, A holds of all spine nodes, and R of all rows that hung drawings occupy.
 pub record Spread (A : Point → Type 0) (R : ℕ → Type 0) (ss : List Side) (L : Layout) : Type 0 where
   pub apart : SpineApart ss L
-  pub node : (i : ℕ) (h : Rooted (spineAt ss i L)) → A (point (top h))
+  pub node : (i : ℕ) (h : HasRoot (spineAt ss i L)) → A (point (top h))
   pub hung : (i x : ℕ) → OccupiesRow x (hungAt ss i L) → R x
 
 -- ---- columns
@@ -105,12 +105,12 @@ each-hung C k P left D N ss d n (suc i) = n i
 each-hung C k P right D N ss d n zero = d
 each-hung C k P right D N ss d n (suc i) = n i
 
-each-node : (C : Point → Type 0) (k : ℕ) (P : Point) (s : Side) (D N : Layout) (ss : List Side) → C P → ((i : ℕ) (h : Rooted (spineAt ss i N)) → C (point (top h))) →
-    (i : ℕ) (h : Rooted (spineAt (s ∷ ss) i (join k P s D N))) → C (point (top h))
+each-node : (C : Point → Type 0) (k : ℕ) (P : Point) (s : Side) (D N : Layout) (ss : List Side) → C P → ((i : ℕ) (h : HasRoot (spineAt ss i N)) → C (point (top h))) →
+    (i : ℕ) (h : HasRoot (spineAt (s ∷ ss) i (join k P s D N))) → C (point (top h))
 unfolding spineAt branch join opposite
-each-node C k P left D N ss p n zero rooted = p
+each-node C k P left D N ss p n zero a-root = p
 each-node C k P left D N ss p n (suc i) h = n i h
-each-node C k P right D N ss p n zero rooted = p
+each-node C k P right D N ss p n zero a-root = p
 each-node C k P right D N ss p n (suc i) h = n i h
 
 -- From A and R of N to A′ and R′ of the whole.
@@ -154,7 +154,7 @@ rows-shift e t D o =
     let l = shift-within e t D (node-point (o .low)) in
     (omega arith, omega arith)
 
-pub in-shift : (e t : ℕ) {Q : Point} (D : Layout) → InRectangle Q (shift e t D) → Within e (width D) t (height D) 1 (Q .column) (Q .row)
+pub in-shift : (e t : ℕ) {Q : Point} (D : Layout) → InRectangle Q (shift e t D) → InWindow e (width D) t (height D) 1 (Q .column) (Q .row)
 in-shift e t D z =
     let l = shift-within e t D (node-point (z .leftmost)) in
     let m = shift-within e t D (node-point (z .rightmost)) in
@@ -233,14 +233,14 @@ module _ (e t : ℕ) where
         to = omega (arith, narrow (n .node));
       }
 
-  tops-put : (s : Side) (C : Point → Type 0) (M : Layout) → ((h : Rooted M) → C (moved s (point (top h)))) → (h : Rooted (put s e t M)) → C (point (top h))
+  tops-put : (s : Side) (C : Point → Type 0) (M : Layout) → ((h : HasRoot M) → C (moved s (point (top h)))) → (h : HasRoot (put s e t M)) → C (point (top h))
   unfolding put inwards
-  tops-put left C (placed k P a b) n rooted = n rooted
-  tops-put right C (placed k P a b) n rooted = n rooted
+  tops-put left C (placed k P a b) n a-root = n a-root
+  tops-put right C (placed k P a b) n a-root = n a-root
 
-  nodes-put : (s : Side) (C : Point → Type 0) (ss : List Side) (L : Layout) → ((i : ℕ) (h : Rooted (spineAt ss i L)) → C (moved s (point (top h)))) →
-      (i : ℕ) (h : Rooted (spineAt (map (sideOn s) ss) i (put s e t L))) → C (point (top h))
-  nodes-put s C ss L n i = subst (λ (M : Layout). (h : Rooted M) → C (point (top h))) (sym (spine-put s ss i L)) (tops-put s C (spineAt ss i L) (n i))
+  nodes-put : (s : Side) (C : Point → Type 0) (ss : List Side) (L : Layout) → ((i : ℕ) (h : HasRoot (spineAt ss i L)) → C (moved s (point (top h)))) →
+      (i : ℕ) (h : HasRoot (spineAt (map (sideOn s) ss) i (put s e t L))) → C (point (top h))
+  nodes-put s C ss L n i = subst (λ (M : Layout). (h : HasRoot M) → C (point (top h))) (sym (spine-put s ss i L)) (tops-put s C (spineAt ss i L) (n i))
 
   pub spread-put : (s : Side) {A A′ : Point → Type 0} {R R′ : ℕ → Type 0} {ss : List Side} {L : Layout} → Fit s e L → ((Q : Point) → A Q → A′ (moved s Q)) → ((x : ℕ) → R (x - t) → R′ x) →
       Spread A R ss L → Spread A′ R′ (map (sideOn s) ss) (put s e t L)

@@ -9,11 +9,11 @@ use Rattle.table.specs.Tree.{Tree, size}
 use Rattle.layout.specs.Layout.{Layout, blank, width, height, flip}
 use Rattle.layout.specs.Spine.{SpineNode, hangs, spine, Role, knee, ordinary, switch, opposite, seen, roleAfter, handAfter, assigned, rolesAfter}
 use Rattle.layout.specs.Drawing.{Part, part, hang, widest, join, place, draw}
-use Rattle.layout.specs.Held.{facing, inwards, put, hungOn, spineOn, Fit}
+use Rattle.layout.specs.inner.Held.{facing, inwards, put, hungOn, spineOn, Fit}
 use Rattle.layout.proofs.Clean.{top}
 use Rattle.layout.proofs.Points.{rooted-high}
 use Rattle.layout.proofs.Along.{Stretch, turn, run, Proper, ended, a-knee, an-ordinary, a-switch, Reached, along}
-use Rattle.layout.proofs.Heights.{Kept}
+use Rattle.layout.proofs.Heights.{PendingRow}
 use Rattle.layout.proofs.Spines.{light-spine, parts, proper}
 use Rattle.layout.proofs.Whole.{drawn, draw-parts}
 use Rattle.layout.proofs.Sides.{sideOn, spine-on}
@@ -39,7 +39,7 @@ record From (c H r : ℕ) (Q : Point) : Type 0 where
 -- hangs, and spine nodes are beyond the W columns that are kept.
 abbrev SpreadOn : Stretch → (W H r p u : ℕ) → List Side → Layout → Type 0
 SpreadOn turn W H r p u ss N = Spread (From 0 H r) (λ x. H < x) ss N
-SpreadOn run W H r p u ss N = Spread (λ Q. From 1 r r Q × (Kept p u (Q .row) → W < Q .column)) (λ x. (r < x) × (Kept p u x → ⊥)) ss N
+SpreadOn run W H r p u ss N = Spread (λ Q. From 1 r r Q × (PendingRow p u (Q .row) → W < Q .column)) (λ x. (r < x) × (PendingRow p u x → ⊥)) ss N
 
 no-part : {A : Point → Type 0} {R : ℕ → Type 0} → Spread A R [] blank
 unfolding hungAt width

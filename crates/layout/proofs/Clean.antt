@@ -14,8 +14,8 @@ onSide left a b = a
 onSide right a b = b
 
 -- A layout that has a root.
-pub data Rooted : Layout → Type 0 where
-  rooted : {k : ℕ} {P : Point} {a b : Layout} → Rooted (placed k P a b)
+pub data HasRoot : Layout → Type 0 where
+  a-root : {k : ℕ} {P : Point} {a b : Layout} → HasRoot (placed k P a b)
 
 -- Nodes and edges are compared with each other: they are the two kinds of pieces of a layout.
 pub data Kind : Type 0 where
@@ -24,7 +24,7 @@ pub data Kind : Type 0 where
 -- The root, its edge to the child on a side, or a piece of the subtree on a side.
 pub data Piece : Kind → Layout → Type 0 where
   root : {k : ℕ} {P : Point} {a b : Layout} → Piece a-node (placed k P a b)
-  edge : {k : ℕ} {P : Point} {a b : Layout} (s : Side) → Rooted (onSide s a b) → Piece an-edge (placed k P a b)
+  edge : {k : ℕ} {P : Point} {a b : Layout} (s : Side) → HasRoot (onSide s a b) → Piece an-edge (placed k P a b)
   below : {c : Kind} {k : ℕ} {P : Point} {a b : Layout} (s : Side) → Piece c (onSide s a b) → Piece c (placed k P a b)
 
 abbrev pub Node : Layout → Type 0
@@ -34,8 +34,8 @@ abbrev pub Edge : Layout → Type 0
 Edge L = Piece an-edge L
 
 -- The root of a layout that has one.
-abbrev pub top : {L : Layout} → Rooted L → Node L
-top rooted = root
+abbrev pub top : {L : Layout} → HasRoot L → Node L
+top a-root = root
 
 -- A node's point and its record.
 abbrev pub point : {L : Layout} → Node L → Point

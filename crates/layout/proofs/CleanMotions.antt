@@ -8,7 +8,7 @@ use Rattle.segment.specs.declared.Point.{Point}
 use Rattle.segment.specs.Segment.{at, On, Is}
 use Rattle.table.specs.Table.{Side, left, right}
 use Rattle.layout.specs.Layout.{Layout, blank, placed, width, shift, flip}
-use Rattle.layout.proofs.Clean.{onSide, Rooted, rooted, Kind, a-node, an-edge, Piece, root, edge, below, Node, Edge, top, point, parent, child, Ends, Clean}
+use Rattle.layout.proofs.Clean.{onSide, HasRoot, a-root, Kind, a-node, an-edge, Piece, root, edge, below, Node, Edge, top, point, parent, child, Ends, Clean}
 use Rattle.layout.proofs.Points.{Between, at-itself, Along, Lower, Order, Apart, Untangled, bare, fork}
 use Rattle.layout.proofs.Meet.{Alike, alike, node-ends, untangled-clean}
 use Rattle.layout.proofs.Motions.{untangled-shift, untangled-flip}
@@ -80,14 +80,14 @@ module _ {k : ℕ} {P : Point} {a b : Layout} (s : Side) (z : Clean (placed k P 
 
 -- ---- a clean layout is untangled
 
-low-clean : {m : ℕ} (L : Layout) → ((h : Rooted L) → m < point (top h) .row) → Lower m L
+low-clean : {m : ℕ} (L : Layout) → ((h : HasRoot L) → m < point (top h) .row) → Lower m L
 low-clean blank h = tt
-low-clean (placed k P a b) h = h rooted
+low-clean (placed k P a b) h = h a-root
 
 order-clean : {k : ℕ} {P : Point} (a b : Layout) → Clean (placed k P a b) → Order P a b
 order-clean blank b z = tt
 order-clean (placed i A a a′) blank z = tt
-order-clean (placed i A a a′) (placed j B b b′) z = z .ordered (edge left rooted) (edge right rooted) refl refl refl
+order-clean (placed i A a a′) (placed j B b b′) z = z .ordered (edge left a-root) (edge right a-root) refl refl refl
 
 -- Where a node is: the root, on the left, on the right.
 abbrev spot : {k : ℕ} {P : Point} {a b : Layout} → Node (placed k P a b) → ℕ

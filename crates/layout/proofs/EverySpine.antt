@@ -11,7 +11,7 @@ use Rattle.table.specs.Tree.{Tree, none, node, size}
 use Rattle.layout.specs.Layout.{Layout, blank, placed, width, mirror}
 use Rattle.layout.specs.Spine.{SpineNode, hangs, Role, knee, handAfter}
 use Rattle.layout.specs.Drawing.{join, Rest, drawing, draw}
-use Rattle.layout.specs.Held.{facing, inwards, put, hungOn, heightOn, widthOn, spineOn, roleNext, far, lay, widestOn, Frame, Fit, Inside, Rooms, no-rooms, knee-room, ordinary-room, switch-room}
+use Rattle.layout.specs.inner.Held.{facing, inwards, put, hungOn, heightOn, widthOn, spineOn, roleNext, far, lay, widestOn, Frame, Fit, Inside, Rooms, no-rooms, knee-room, ordinary-room, switch-room}
 use Rattle.layout.proofs.Rows.{shape, mirror-twice}
 use Rattle.layout.proofs.Spines.{hungTree}
 use Rattle.layout.proofs.Theorem.{promise}

@@ -35,8 +35,8 @@ pub record TurnRows (H b : ℕ) (N : Layout) : Type 0 where
   pub filled : (j : ℕ) → H < j → j ≤ b → HoldsRow N j
 
 -- Row j is kept for what is pending.
-abbrev pub Kept : (p u j : ℕ) → Type 0
-Kept p u j = (u ≤ j) × (j < u + p)
+abbrev pub PendingRow : (p u j : ℕ) → Type 0
+PendingRow p u j = (u ≤ j) × (j < u + p)
 
 -- From another node on: the same, where p rows from u on are kept for what is pending.
 pub record RunRows (H p u b : ℕ) (N : Layout) : Type 0 where
@@ -46,7 +46,7 @@ pub record RunRows (H p u b : ℕ) (N : Layout) : Type 0 where
   pub fits : height N ≤ suc b
   pub least : (z : ℕ) → height N ≤ z → u + p ≤ z → b < z
   pub few : b ≤ H + count N + p
-  pub filled : (j : ℕ) → H < j → j ≤ b → HoldsRow N j ⊎ Kept p u j
+  pub filled : (j : ℕ) → H < j → j ≤ b → HoldsRow N j ⊎ PendingRow p u j
 
 abbrev pub Rows : Stretch → (H p u b : ℕ) → Layout → Type 0
 Rows turn H p u b N = p ≡ 0 → TurnRows H b N
@@ -106,7 +106,7 @@ rows-ordinary k s H r p {u} {b} {D} {N} le ge g n = record {
     J : Joined k (at 1 r) s (shift 2 (r + 1) D) N
     J = joined k (at 1 r) s (shift 2 (r + 1) D) N
 
-    go : (j : ℕ) → H < j → j ≤ b → Dec (j ≤ r) → Dec (j ≤ r + height D) → HoldsRow (join k (at 1 r) s (shift 2 (r + 1) D) N) j ⊎ Kept p u j
+    go : (j : ℕ) → H < j → j ≤ b → Dec (j ≤ r) → Dec (j ≤ r + height D) → HoldsRow (join k (at 1 r) s (shift 2 (r + 1) D) N) j ⊎ PendingRow p u j
     go j l m (yes i) d = inl (J .here j (omega arith))
     go j l m (no i) (yes d) = inl (J .in-hung (hung-row 2 (r + 1) j g (omega arith) (omega arith)))
     go j l m (no i) (no d) = ⊎-map (J .in-next) (λ z. z) (n .filled j (omega arith) m)
@@ -127,7 +127,7 @@ rows-switch k W H r p {b} {D} {N} le ge g n = record {
     J = joined k (at 1 r) left (shift 1 (r + 1) D) (flip (W + 2) N)
 
     go : (j : ℕ) → H < j → j ≤ b → Dec (j ≤ r) → Dec (j ≤ r + height D) → Dec (j ≤ r + height D + p) →
-        HoldsRow (join k (at 1 r) left (shift 1 (r + 1) D) (flip (W + 2) N)) j ⊎ Kept p (r + height D + 1) j
+        HoldsRow (join k (at 1 r) left (shift 1 (r + 1) D) (flip (W + 2) N)) j ⊎ PendingRow p (r + height D + 1) j
     go j l m (yes i) d c = inl (J .here j (omega arith))
     go j l m (no i) (yes d) c = inl (J .in-hung (hung-row 1 (r + 1) j g (omega arith) (omega arith)))
     go j l m (no i) (no d) (yes c) = inr (omega arith, omega arith)

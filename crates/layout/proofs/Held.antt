@@ -10,7 +10,7 @@ use Rattle.table.specs.Tree.{Tree, size}
 use Rattle.layout.specs.Layout.{Layout, blank, placed, width, height, shift, flip}
 use Rattle.layout.specs.Spine.{SpineNode, hangs, Role, knee, ordinary, switch, opposite, seen, roleAfter, handAfter, assigned, rolesAfter}
 use Rattle.layout.specs.Drawing.{Part, part, hang, widest, join, place, draw}
-use Rattle.layout.specs.Held.{facing, inwards, put, hungOn, heightOn, widthOn, spineOn, roleNext, far, lay, rolesOn, widestOn, Frame, Fit, Exact, bottom, Inside, Rooms, no-rooms, knee-room, ordinary-room, switch-room}
+use Rattle.layout.specs.inner.Held.{facing, inwards, put, hungOn, heightOn, widthOn, spineOn, roleNext, far, lay, rolesOn, widestOn, Frame, Fit, Exact, bottom, Inside, Rooms, no-rooms, knee-room, ordinary-room, switch-room}
 use Rattle.layout.proofs.Motions.{width-shift, width-shifted, width-flip}
 use Rattle.layout.proofs.Rows.{shape, count, size-facing}
 use Rattle.layout.proofs.Steps.{wide-join}

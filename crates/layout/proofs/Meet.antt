@@ -8,7 +8,7 @@ use Rattle.segment.specs.declared.Point.{Point}
 use Rattle.segment.specs.Segment.{Is}
 use Rattle.table.specs.Table.{Side, left, right}
 use Rattle.layout.specs.Layout.{Layout, placed}
-use Rattle.layout.proofs.Clean.{onSide, Rooted, rooted, Kind, Piece, root, edge, below, Node, Edge, top, point, parent, child, side, Ends, Before, Clean}
+use Rattle.layout.proofs.Clean.{onSide, HasRoot, a-root, Kind, Piece, root, edge, below, Node, Edge, top, point, parent, child, side, Ends, Before, Clean}
 use Rattle.layout.proofs.Points.{Between, between, itself, at-itself, weighed, at-end, falls, Along, pointOn, EdgeTo, Lower, Order, Untangled, fork, low, untangled, deep, low-top, under-top}
 
 -- ---- pairs of pieces
@@ -30,25 +30,25 @@ from-one {P} {A} {B} t m n = at-end n (omega (
     rows : m .v * A .row + n .v * P .row ≡ n .v * B .row + m .v * P .row
     rows = omega (arith, m .in-row, n .in-row, weighed m (P .row), weighed n (P .row))
 
-before : (P : Point) {a b : Layout} → Order P a b → (h : Rooted a) (i : Rooted b) → Before P (point (top h)) (point (top i))
-before P o rooted rooted = o
+before : (P : Point) {a b : Layout} → Order P a b → (h : HasRoot a) (i : HasRoot b) → Before P (point (top h)) (point (top i))
+before P o a-root a-root = o
 
 -- A piece that has the root's point ends there.
-ends-root : {L : Layout} {c : Kind} {q x y : ℕ} → Untangled L → (h : Rooted L) → 1 ≤ q → (p : Piece c L) → Along p q x y → Is (point (top h)) q x y → Ends (top h) p
-ends-root c rooted one root m e = inl refl
-ends-root c rooted one (edge s h) m e = inl refl
-ends-root (fork {P} c d j o) rooted one (below s p) m e = absurd (omega (arith, e .in-row, deep (untangled c d s) (P .row) (low j s) (pointOn p m)))
+ends-root : {L : Layout} {c : Kind} {q x y : ℕ} → Untangled L → (h : HasRoot L) → 1 ≤ q → (p : Piece c L) → Along p q x y → Is (point (top h)) q x y → Ends (top h) p
+ends-root c a-root one root m e = inl refl
+ends-root c a-root one (edge s h) m e = inl refl
+ends-root (fork {P} c d j o) a-root one (below s p) m e = absurd (omega (arith, e .in-row, deep (untangled c d s) (P .row) (low j s) (pointOn p m)))
 
 -- The edge to the root of a drawing, and a piece of the drawing, share only the root.
-at-top : {P : Point} {L : Layout} {c : Kind} {q x y : ℕ} → Untangled L → Lower (P .row) L → (h : Rooted L) → 1 ≤ q → Between P (point (top h)) q x y →
+at-top : {P : Point} {L : Layout} {c : Kind} {q x y : ℕ} → Untangled L → Lower (P .row) L → (h : HasRoot L) → 1 ≤ q → Between P (point (top h)) q x y →
     (p : Piece c L) → Along p q x y → Ends (top h) p × Is (point (top h)) q x y
 at-top {P} {L} {q} {x} {y} c l h one m p n = (ends-root c h one p n e, e)
   where
     e : Is (point (top h)) q x y
     e = let f = falls (low-top l h) m in let u = under-top c h one (pointOn p n) in record { in-column = u .only (f .above); in-row = omega (arith, u .rows, f .above) }
 
-one-top : {L : Layout} (h i : Rooted L) → h ≡ i
-one-top rooted rooted = refl
+one-top : {L : Layout} (h i : HasRoot L) → h ≡ i
+one-top a-root a-root = refl
 
 -- ---- any two pieces
 
@@ -71,7 +71,7 @@ met-below s (same alike) = same alike
 met-below s (common n e f i) = common (below s n) (⊎-map (ap (below s)) (ap (below s)) e) (⊎-map (ap (below s)) (ap (below s)) f) i
 
 -- The edge to the child on a side, and a piece of the subtree there.
-edge-meets : {k : ℕ} {P : Point} {a b : Layout} {c : Kind} {q x y : ℕ} → Untangled (placed k P a b) → (s : Side) (h : Rooted (onSide s a b)) (r : Piece c (onSide s a b)) →
+edge-meets : {k : ℕ} {P : Point} {a b : Layout} {c : Kind} {q x y : ℕ} → Untangled (placed k P a b) → (s : Side) (h : HasRoot (onSide s a b)) (r : Piece c (onSide s a b)) →
     1 ≤ q → Between P (point (top h)) q x y → Along r q x y → Meet (edge {k = k} {P = P} {a = a} {b = b} s h) (below {k = k} {P = P} {a = a} {b = b} s r) q x y
 edge-meets (fork c d j o) s h r one m n =
     let z = at-top (untangled c d s) (low j s) h one m r n in
@@ -79,9 +79,9 @@ edge-meets (fork c d j o) s h r one m n =
 
 root-meets : {k : ℕ} {P : Point} {a b : Layout} {d : Kind} {q x y : ℕ} → Untangled (placed k P a b) → (r : Piece d (placed k P a b)) → 1 ≤ q → Between P P q x y → Along r q x y →
     Meet (root {k = k} {P = P} {a = a} {b = b}) r q x y
-root-meets c r one m n = common root (inl refl) (ends-root c rooted one r n (at-itself m)) (at-itself m)
+root-meets c r one m n = common root (inl refl) (ends-root c a-root one r n (at-itself m)) (at-itself m)
 
-edgeTo : {P : Point} {L : Layout} {q x y : ℕ} (h : Rooted L) → Between P (point (top h)) q x y → EdgeTo P q x y L
+edgeTo : {P : Point} {L : Layout} {q x y : ℕ} (h : HasRoot L) → Between P (point (top h)) q x y → EdgeTo P q x y L
 edgeTo h m = record { has = h; on = m }
 
 meet : {L : Layout} {c d : Kind} {q x y : ℕ} → Untangled L → (p : Piece c L) (r : Piece d L) → 1 ≤ q → Along p q x y → Along r q x y → Meet p r q x y

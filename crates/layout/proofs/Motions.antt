@@ -7,17 +7,17 @@ use Rattle.segment.specs.declared.Point.{Point}
 use Rattle.segment.specs.Segment.{at}
 use Rattle.table.specs.Table.{left, right}
 use Rattle.layout.specs.Layout.{Layout, blank, placed, width, height, shift, flip}
-use Rattle.layout.proofs.Clean.{Rooted, rooted, Kind, Piece, root, edge, below, Node, top, point, Before}
-use Rattle.layout.proofs.Points.{Between, weighed, Along, PointOf, pointOn, EdgeTo, point-edge, point-below, Lower, RootAt, Order, exchange, Untangled, bare, fork, NodeWithin, Within, point-within}
+use Rattle.layout.proofs.Clean.{HasRoot, a-root, Kind, Piece, root, edge, below, Node, top, point, Before}
+use Rattle.layout.proofs.Points.{Between, weighed, Along, PointOf, pointOn, EdgeTo, point-edge, point-below, Lower, RootAt, Order, exchange, Untangled, bare, fork, NodeInWindow, InWindow, point-within}
 
 -- ---- shift
 
 between-shifted : {P Q : Point} {q x y : ℕ} (e t : ℕ) → Between (at (e + P .column) (t + P .row)) (at (e + Q .column) (t + Q .row)) q x y → Between P Q q (x - q * e) (y - q * t)
 between-shifted e t m = record { u = m .u; v = m .v; sum = m .sum; in-column = omega (arith, m .in-column, weighed m e); in-row = omega (arith, m .in-row, weighed m t) }
 
-edge-shifted : {P : Point} {q x y : ℕ} (e t : ℕ) (L : Layout) (h : Rooted (shift e t L)) → Between (at (e + P .column) (t + P .row)) (point (top h)) q x y → EdgeTo P q (x - q * e) (y - q * t) L
+edge-shifted : {P : Point} {q x y : ℕ} (e t : ℕ) (L : Layout) (h : HasRoot (shift e t L)) → Between (at (e + P .column) (t + P .row)) (point (top h)) q x y → EdgeTo P q (x - q * e) (y - q * t) L
 unfolding shift
-edge-shifted e t (placed k Q a b) rooted m = record { has = rooted; on = between-shifted e t m }
+edge-shifted e t (placed k Q a b) a-root m = record { has = a-root; on = between-shifted e t m }
 
 piece-shifted : {c : Kind} {q x y : ℕ} (e t : ℕ) (L : Layout) (p : Piece c (shift e t L)) → Along p q x y → PointOf q (x - q * e) (y - q * t) L
 unfolding shift
@@ -52,14 +52,14 @@ untangled-shift e t (fork {P} {a} {b} c d j o) = fork (untangled-shift e t c) (u
   clear-b = λ one h i. j .clear-b one (edge-shifted e t b (h .has) (h .on)) (shifted e t a i);
 }) (order-shift e t P a b o)
 
-node-within : (e w t h : ℕ) (L : Layout) → width L ≤ w → height L ≤ h → (n : Node (shift e t L)) → NodeWithin e w t h n
+node-within : (e w t h : ℕ) (L : Layout) → width L ≤ w → height L ≤ h → (n : Node (shift e t L)) → NodeInWindow e w t h n
 unfolding shift width height
 node-within e w t h (placed k P a b) i j root = omega arith
 node-within e w t h (placed k P a b) i j (below left n) = node-within e w t h a (omega arith) (omega arith) n
 node-within e w t h (placed k P a b) i j (below right n) = node-within e w t h b (omega arith) (omega arith) n
 
 -- A drawing with its left edge at column e and its top row at row t.
-pub shift-within : (e t : ℕ) {q x y : ℕ} (L : Layout) → PointOf q x y (shift e t L) → Within e (width L) t (height L) q x y
+pub shift-within : (e t : ℕ) {q x y : ℕ} (L : Layout) → PointOf q x y (shift e t L) → InWindow e (width L) t (height L) q x y
 shift-within e t L z = point-within e (width L) t (height L) (node-within e (width L) t (height L) L (omega arith) (omega arith)) z
 
 pub width-shift : (e t : ℕ) (L : Layout) → width (shift e t L) ≤ e + width L
@@ -98,9 +98,9 @@ module _ (e : ℕ) where
       let g : e - Q .column + Q .column ≡ e = omega arith in
       record { u = m .u; v = m .v; sum = m .sum; in-column = omega (arith, m .in-column, weighed m e, ap (λ (n : ℕ). m .u * n) f, ap (λ (n : ℕ). m .v * n) g); in-row = m .in-row }
 
-  edge-flipped : {P : Point} {q x y : ℕ} → P .column ≤ e → (L : Layout) → width L ≤ suc e → (h : Rooted (flip e L)) → Between (at (e - P .column) (P .row)) (point (top h)) q x y → EdgeTo P q (q * e - x) y L
+  edge-flipped : {P : Point} {q x y : ℕ} → P .column ≤ e → (L : Layout) → width L ≤ suc e → (h : HasRoot (flip e L)) → Between (at (e - P .column) (P .row)) (point (top h)) q x y → EdgeTo P q (q * e - x) y L
   unfolding flip width
-  edge-flipped h (placed k Q a b) w rooted m = record { has = rooted; on = between-flipped h (omega arith) m }
+  edge-flipped h (placed k Q a b) w a-root m = record { has = a-root; on = between-flipped h (omega arith) m }
 
   piece-flipped : {c : Kind} {q x y : ℕ} (L : Layout) → width L ≤ suc e → (p : Piece c (flip e L)) → Along p q x y → PointOf q (q * e - x) y L
   unfolding flip width

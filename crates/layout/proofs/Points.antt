@@ -8,7 +8,7 @@ use Rattle.segment.specs.declared.Point.{Point}
 use Rattle.segment.specs.Segment.{On, Is}
 use Rattle.table.specs.Table.{Side, left, right}
 use Rattle.layout.specs.Layout.{Layout, blank, placed, height}
-use Rattle.layout.proofs.Clean.{onSide, Rooted, rooted, Kind, Piece, root, edge, below, Node, top, point, parent, child, Before}
+use Rattle.layout.proofs.Clean.{onSide, HasRoot, a-root, Kind, Piece, root, edge, below, Node, top, point, parent, child, Before}
 
 -- ---- points of a segment
 
@@ -72,21 +72,21 @@ pub record PointOf (q x y : ℕ) (L : Layout) : Type 0 where
 abbrev pub pointOn : {c : Kind} {q x y : ℕ} {L : Layout} (p : Piece c L) → Along p q x y → PointOf q x y L
 pointOn {c} p m = record { kind = c; piece = p; on = m }
 
-pub rooted-high : {L : Layout} → Rooted L → 1 ≤ height L
+pub rooted-high : {L : Layout} → HasRoot L → 1 ≤ height L
 unfolding height
-rooted-high rooted = omega arith
+rooted-high a-root = omega arith
 
-piece-rooted : {c : Kind} {L : Layout} → Piece c L → Rooted L
-piece-rooted root = rooted
-piece-rooted (edge s h) = rooted
-piece-rooted (below s p) = rooted
+piece-rooted : {c : Kind} {L : Layout} → Piece c L → HasRoot L
+piece-rooted root = a-root
+piece-rooted (edge s h) = a-root
+piece-rooted (below s p) = a-root
 
-pub point-rooted : {q x y : ℕ} {L : Layout} → PointOf q x y L → Rooted L
+pub point-rooted : {q x y : ℕ} {L : Layout} → PointOf q x y L → HasRoot L
 point-rooted t = piece-rooted (t .piece)
 
 -- (x, y) / q is a point of the edge from P to the root of a drawing.
 pub record EdgeTo (P : Point) (q x y : ℕ) (L : Layout) : Type 0 where
-  pub has : Rooted L
+  pub has : HasRoot L
   pub on : Between P (point (top has)) q x y
 
 pub point-edge : {k : ℕ} {P : Point} {q x y : ℕ} {a b : Layout} (s : Side) → EdgeTo P q x y (onSide s a b) → PointOf q x y (placed k P a b)
@@ -151,21 +151,21 @@ deep c m h t = omega (
   weighed (t .on) (suc m),
 )
 
-pub low-top : {L : Layout} {m : ℕ} → Lower m L → (h : Rooted L) → m < point (top h) .row
-low-top l rooted = l
+pub low-top : {L : Layout} {m : ℕ} → Lower m L → (h : HasRoot L) → m < point (top h) .row
+low-top l a-root = l
 
 -- (x, y) / q is not above the row of P, and in that row only at P.
 pub record Under (P : Point) (q x y : ℕ) : Type 0 where
   pub rows : q * P .row ≤ y
   pub only : y ≤ q * P .row → x ≡ q * P .column
 
-under-piece : {L : Layout} {c : Kind} {q x y : ℕ} → Untangled L → (h : Rooted L) → 1 ≤ q → (p : Piece c L) → Along p q x y → Under (point (top h)) q x y
-under-piece (fork {P} c d j o) rooted one root m = record { rows = omega (arith, m .in-row, weighed m (P .row)); only = λ l. m .in-column ∙ weighed m (P .column) }
-under-piece (fork c d j o) rooted one (edge s h) m = let f = falls (low-top (low j s) h) m in record { rows = f .over; only = f .start }
-under-piece (fork {P} c d j o) rooted one (below s p) m = let h = deep (untangled c d s) (P .row) (low j s) (pointOn p m) in record { rows = omega arith; only = λ l. absurd (omega arith) }
+under-piece : {L : Layout} {c : Kind} {q x y : ℕ} → Untangled L → (h : HasRoot L) → 1 ≤ q → (p : Piece c L) → Along p q x y → Under (point (top h)) q x y
+under-piece (fork {P} c d j o) a-root one root m = record { rows = omega (arith, m .in-row, weighed m (P .row)); only = λ l. m .in-column ∙ weighed m (P .column) }
+under-piece (fork c d j o) a-root one (edge s h) m = let f = falls (low-top (low j s) h) m in record { rows = f .over; only = f .start }
+under-piece (fork {P} c d j o) a-root one (below s p) m = let h = deep (untangled c d s) (P .row) (low j s) (pointOn p m) in record { rows = omega arith; only = λ l. absurd (omega arith) }
 
 -- The top row holds the root alone.
-pub under-top : {L : Layout} {q x y : ℕ} → Untangled L → (h : Rooted L) → 1 ≤ q → PointOf q x y L → Under (point (top h)) q x y
+pub under-top : {L : Layout} {q x y : ℕ} → Untangled L → (h : HasRoot L) → 1 ≤ q → PointOf q x y L → Under (point (top h)) q x y
 under-top c h one t = under-piece c h one (t .piece) (t .on)
 
 -- ---- a root whose place is known
@@ -175,8 +175,8 @@ pub record UntangledAt (Q : Point) (L : Layout) : Type 0 where
   pub untangled : Untangled L
   pub root : RootAt Q L
 
-top-at : {L : Layout} (Q : Point) → RootAt Q L → (h : Rooted L) → point (top h) ≡ Q
-top-at Q e rooted = e
+top-at : {L : Layout} (Q : Point) → RootAt Q L → (h : HasRoot L) → point (top h) ≡ Q
+top-at Q e a-root = e
 
 pub low-at : {L : Layout} {m : ℕ} {Q : Point} → UntangledAt Q L → m < Q .row → Lower m L
 low-at {L} {m} {Q} z l = go L (z .root)
@@ -191,31 +191,31 @@ edge-at {P} {Q} {q} {x} {y} z e = subst (λ (R : Point). Between P R q x y) (top
 pub under-at : {L : Layout} {Q : Point} {q x y : ℕ} → UntangledAt Q L → 1 ≤ q → PointOf q x y L → Under Q q x y
 under-at {Q} {q} {x} {y} z one t = let r = point-rooted t in subst (λ (R : Point). Under R q x y) (top-at Q (z .root) r) (under-top (z .untangled) r one t)
 
-pub order-at : (P : Point) {A B : Point} {a b : Layout} → UntangledAt A a → UntangledAt B b → (Rooted a → Rooted b → Before P A B) → Order P a b
+pub order-at : (P : Point) {A B : Point} {a b : Layout} → UntangledAt A a → UntangledAt B b → (HasRoot a → HasRoot b → Before P A B) → Order P a b
 order-at P {A} {B} {a} {b} z w t = go a b (z .root) (w .root) t
   where
-    go : (a b : Layout) → RootAt A a → RootAt B b → (Rooted a → Rooted b → Before P A B) → Order P a b
+    go : (a b : Layout) → RootAt A a → RootAt B b → (HasRoot a → HasRoot b → Before P A B) → Order P a b
     go blank b h i t = tt
     go (placed k R a a′) blank h i t = tt
-    go (placed k R a a′) (placed l S b b′) h i t = rw (h, i) (t rooted rooted)
+    go (placed k R a a′) (placed l S b b′) h i t = rw (h, i) (t a-root a-root)
 
 -- ---- rectangles
 
 -- (x, y) / q is in the w columns from e on and in the h rows from t on.
-pub record Within (e w t h q x y : ℕ) : Type 0 where
+pub record InWindow (e w t h q x y : ℕ) : Type 0 where
   pub from-column : q * e ≤ x
   pub to-column : x + q ≤ q * (e + w)
   pub from-row : q * t ≤ y
   pub to-row : y + q ≤ q * (t + h)
 
-abbrev pub NodeWithin : (e w t h : ℕ) {L : Layout} → Node L → Type 0
-NodeWithin e w t h n = Within e w t h 1 (point n .column) (point n .row)
+abbrev pub NodeInWindow : (e w t h : ℕ) {L : Layout} → Node L → Type 0
+NodeInWindow e w t h n = InWindow e w t h 1 (point n .column) (point n .row)
 
 -- A drawing's points are in the rectangle that its nodes are in.
-pub point-within : (e w t h : ℕ) {q x y : ℕ} {L : Layout} → ((n : Node L) → NodeWithin e w t h n) → PointOf q x y L → Within e w t h q x y
+pub point-within : (e w t h : ℕ) {q x y : ℕ} {L : Layout} → ((n : Node L) → NodeInWindow e w t h n) → PointOf q x y L → InWindow e w t h q x y
 point-within e w t h {q} {x} {y} all z = go (all (parent (z .piece))) (all (child (z .piece))) (z .on)
   where
-    go : {P Q : Point} → Within e w t h 1 (P .column) (P .row) → Within e w t h 1 (Q .column) (Q .row) → Between P Q q x y → Within e w t h q x y
+    go : {P Q : Point} → InWindow e w t h 1 (P .column) (P .row) → InWindow e w t h 1 (Q .column) (Q .row) → Between P Q q x y → InWindow e w t h q x y
     go i j m = record {
       from-column = omega (arith, m .in-column, mul-le-mul-left (m .u) (i .from-column), mul-le-mul-left (m .v) (j .from-column), weighed m e);
       to-column = omega (arith, m .in-column, m .sum, mul-le-mul-left (m .u) (i .to-column), mul-le-mul-left (m .v) (j .to-column), weighed m (e + w));

@@ -9,7 +9,7 @@ use Rattle.table.specs.Table.{Side, left, right}
 use Rattle.table.specs.Tree.{Tree, node}
 use Rattle.layout.specs.Layout.{Layout, placed}
 use Rattle.layout.specs.Drawing.{draw}
-use Rattle.layout.proofs.Clean.{Rooted, rooted, root, edge, below, Node, Edge, top, point, recordOf, parent, child, side, Ends, OnEdge, Before, Clean}
+use Rattle.layout.proofs.Clean.{HasRoot, a-root, root, edge, below, Node, Edge, top, point, recordOf, parent, child, side, Ends, OnEdge, Before, Clean}
 use Rattle.layout.proofs.Rows.{shape}
 use Rattle.layout.proofs.Theorem.{promise}
 
@@ -64,9 +64,9 @@ as-node k (placed i P a b) node-here = record { n = root; is = refl }
 as-node k (placed i P a b) (node-left h) = let z = as-node k a h in record { n = below left (z .n); is = z .is }
 as-node k (placed i P a b) (node-right h) = let z = as-node k b h in record { n = below right (z .n); is = z .is }
 
-as-root : (c : ℕ) (L : Layout) → Root c (shape L) → (h : Rooted L) × (recordOf (top h) ≡ c)
+as-root : (c : ℕ) (L : Layout) → Root c (shape L) → (h : HasRoot L) × (recordOf (top h) ≡ c)
 unfolding shape
-as-root c (placed k P a b) root-here = (rooted, refl)
+as-root c (placed k P a b) root-here = (a-root, refl)
 
 as-edge : (k c : ℕ) (s : Side) (L : Layout) → Child k c s (shape L) → AsEdge k c s L
 unfolding shape

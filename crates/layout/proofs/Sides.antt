@@ -12,7 +12,7 @@ use Rattle.table.specs.Tree.{Tree, none, node, size}
 use Rattle.layout.specs.Layout.{Layout, blank, placed, width, shift, flip, mirror}
 use Rattle.layout.specs.Spine.{SpineNode, hangs, spine, Role, knee, ordinary, switch, opposite, seen, roleAfter, handAfter, Assigned, assigned, rolesAfter}
 use Rattle.layout.specs.Drawing.{Part, hang, join, draw}
-use Rattle.layout.specs.Held.{facing, inwards, put, hungOn, spineOn, rolesOn, Fit, Exact}
+use Rattle.layout.specs.inner.Held.{facing, inwards, put, hungOn, spineOn, rolesOn, Fit, Exact}
 use Rattle.layout.proofs.Clean.{Clean}
 use Rattle.layout.proofs.Points.{Untangled}
 use Rattle.layout.proofs.Meet.{untangled-clean}

@@ -12,8 +12,8 @@ use Rattle.table.specs.Tree.{Tree, none, node, size}
 use Rattle.layout.specs.Layout.{Layout, blank, placed, width, mirror}
 use Rattle.layout.specs.Spine.{SpineNode, hangs, spine, Role, knee, ordinary, switch, opposite, seen, runRole, roleAfter, handAfter, assigned, rolesAfter, roles}
 use Rattle.layout.specs.Drawing.{Part, part, hang, widest, join, place}
-use Rattle.layout.specs.Held.{facing}
-use Rattle.layout.proofs.Clean.{Rooted, rooted}
+use Rattle.layout.specs.inner.Held.{facing}
+use Rattle.layout.proofs.Clean.{HasRoot, a-root}
 use Rattle.layout.proofs.Rows.{shape, mirror-twice, size-mirror, shape-shift, shape-flip}
 use Rattle.layout.proofs.Along.{Drawn, Stretch, turn, run, Beside, on-right, nothing, Proper, ended, a-knee, an-ordinary, a-switch}
 
@@ -116,10 +116,10 @@ unfolding shape
 beside blank e = nothing
 beside (placed k P a b) e = absurd (let z : _≡_ {A = ℕ} 0 1 = cc in omega arith)
 
-has-root : (D : Layout) {k : ℕ} {a b : Tree} → shape D ≡ node k a b → Rooted D
+has-root : (D : Layout) {k : ℕ} {a b : Tree} → shape D ≡ node k a b → HasRoot D
 unfolding shape
 has-root blank e = absurd (let z : _≡_ {A = ℕ} 0 1 = cc in omega arith)
-has-root (placed k P a b) e = rooted
+has-root (placed k P a b) e = a-root
 
 proper-run : (W : ℕ) (d : Tree → Layout) (l : SpineNode) {ps : List Part} → Drawn (hungTree l) (d (hungTree l)) → width (d (hungTree l)) ≤ W → Proper W (after (runRole l)) ps →
     Proper W run (hang d (assigned (runRole l) l) ∷ ps)

@@ -10,18 +10,18 @@ use Rattle.segment.specs.Segment.{at, Is}
 use Rattle.table.specs.Table.{Side, left, right}
 use Rattle.layout.specs.Layout.{Layout, placed, width, flip}
 use Rattle.layout.specs.Drawing.{join}
-use Rattle.layout.proofs.Clean.{Rooted, Kind, Piece, root, edge, below}
-use Rattle.layout.proofs.Points.{Between, at-itself, falls, Along, PointOf, pointOn, EdgeTo, Order, Apart, exchange, fork, point-rooted, UntangledAt, low-at, edge-at, under-at, order-at, Within}
+use Rattle.layout.proofs.Clean.{HasRoot, Kind, Piece, root, edge, below}
+use Rattle.layout.proofs.Points.{Between, at-itself, falls, Along, PointOf, pointOn, EdgeTo, Order, Apart, exchange, fork, point-rooted, UntangledAt, low-at, edge-at, under-at, order-at, InWindow}
 use Rattle.layout.proofs.Motions.{flipped, untangled-flip, width-flip, root-flip}
 
 -- ---- what is known of D and N
 
 -- A hung drawing of width w and height h, with its left edge at column e and its top row at row t.
-pub record Hung (e t w h : ℕ) (D : Layout) : Type 0 where
+pub record HungRectangle (e t w h : ℕ) (D : Layout) : Type 0 where
   pub stands : UntangledAt (at e t) D
   pub wide : width D ≤ e + w
-  pub some : Rooted D → (1 ≤ w) × (1 ≤ h)
-  pub within : {q x y : ℕ} → PointOf q x y D → Within e w t h q x y
+  pub some : HasRoot D → (1 ≤ w) × (1 ≤ h)
+  pub within : {q x y : ℕ} → PointOf q x y D → InWindow e w t h q x y
 
 -- What is drawn from an ordinary node or a switch in row r on; H is the lowest row used before it. The rows u to u + p − 1 are kept for what is pending: above them
 -- columns from 1 on are used, in them only columns beyond W.
@@ -29,7 +29,7 @@ pub record Run (W H r p u : ℕ) (N : Layout) : Type 0 where
   pub stands : UntangledAt (at 1 r) N
   pub wide : width N ≤ W + 3
   pub below : H < u
-  pub under : Rooted N → r < u
+  pub under : HasRoot N → r < u
   pub free : 1 ≤ p → {q x y : ℕ} → 1 ≤ q → PointOf q x y N → y < q * u → q ≤ x
   pub kept : 1 ≤ p → {q x y : ℕ} → 1 ≤ q → PointOf q x y N → q * u ≤ y → y + q ≤ q * (u + p) → q * W + q ≤ x
 
@@ -77,7 +77,7 @@ reaches : {r s q x y : ℕ} → Between (at 0 r) (at 1 s) q x y → q ≤ x → 
 reaches {s} {q} m h = let l : q ≤ m .v = omega (arith, m .in-column) in omega (arith, m .in-row, mul-le-mul-right s l)
 
 -- Step 4 with the right child hung.
-pub step-knee-right : (k : ℕ) {W H r w h u : ℕ} {D N : Layout} → r ≤ H → w ≤ W → Hung 1 (H + 1) w h D → Run W (H + h) (H + h + 1) 0 u N → Knee W H r (join k (at 0 r) right D N)
+pub step-knee-right : (k : ℕ) {W H r w h u : ℕ} {D N : Layout} → r ≤ H → w ≤ W → HungRectangle 1 (H + 1) w h D → Run W (H + h) (H + h + 1) 0 u N → Knee W H r (join k (at 0 r) right D N)
 unfolding join width
 step-knee-right k {W} {H} {r} {w} {h} {u} {D} {N} le wW d n = record {
   stands = joined k right (d .stands) (n .stands) (record {
@@ -97,7 +97,7 @@ step-knee-right k {W} {H} {r} {w} {h} {u} {D} {N} le wW d n = record {
 }
 
 -- Step 4 with the left child hung: it is pending, and goes to row u.
-pub step-knee-left : (k : ℕ) {W H r w h u : ℕ} {D N : Layout} → r ≤ H → w ≤ W → Hung 1 u w h D → Run W H (H + 1) h u N → Knee W H r (join k (at 0 r) left D N)
+pub step-knee-left : (k : ℕ) {W H r w h u : ℕ} {D N : Layout} → r ≤ H → w ≤ W → HungRectangle 1 u w h D → Run W H (H + 1) h u N → Knee W H r (join k (at 0 r) left D N)
 unfolding join width
 step-knee-left k {W} {H} {r} {w} {h} {u} {D} {N} le wW d n = record {
   stands = joined k left (d .stands) (n .stands) (record {
@@ -124,7 +124,7 @@ step-knee-left k {W} {H} {r} {w} {h} {u} {D} {N} le wW d n = record {
         omega (arith, m .in-column, m .sum, mul-le-mul-left q w₁, mul-le-mul-left q wW, n .kept h₁ one t (omega arith) (omega (arith, f .above, mul-le-mul-left q h₁)))
 
 -- Step 5, the right child hung, or none.
-pub step-ordinary : (k : ℕ) (s : Side) {W H r p w h u : ℕ} {D N : Layout} → H ≤ r → w ≤ W → OrderOn s (at 1 r) D N → Hung 2 (r + 1) w h D → Run W (r + h) (r + max 1 h) p u N →
+pub step-ordinary : (k : ℕ) (s : Side) {W H r p w h u : ℕ} {D N : Layout} → H ≤ r → w ≤ W → OrderOn s (at 1 r) D N → HungRectangle 2 (r + 1) w h D → Run W (r + h) (r + max 1 h) p u N →
     Run W H r p u (join k (at 1 r) s D N)
 unfolding join width
 step-ordinary k s {W} {H} {r} {p} {w} {h} {u} {D} {N} le wW o d n = record {
@@ -164,7 +164,7 @@ step-ordinary k s {W} {H} {r} {p} {w} {h} {u} {D} {N} le wW o d n = record {
     biggest i = omega arith
 
 -- Step 6. What follows is a drawing of the other hand, from a knee on.
-pub step-switch : (k : ℕ) {W H r p w h : ℕ} {D N : Layout} → H ≤ r → w ≤ W → 1 ≤ h → Hung 1 (r + 1) w h D → Knee W (r + h + p) (r + 1) N →
+pub step-switch : (k : ℕ) {W H r p w h : ℕ} {D N : Layout} → H ≤ r → w ≤ W → 1 ≤ h → HungRectangle 1 (r + 1) w h D → Knee W (r + h + p) (r + 1) N →
     Run W H r p (r + h + 1) (join k (at 1 r) left D (flip (W + 2) N))
 unfolding join width
 step-switch k {W} {H} {r} {p} {w} {h} {D} {N} le wW h₁ d n = record {

@@ -10,8 +10,8 @@ use Rattle.table.specs.Tree.{Tree, none, node, size}
 use Rattle.layout.specs.Layout.{Layout, placed, width, height, shift, flip}
 use Rattle.layout.specs.Spine.{SpineNode, hangs, Role, knee, ordinary, switch, seen, runRole, roleAfter, handAfter, assigned, rolesAfter}
 use Rattle.layout.specs.Drawing.{Part, part, hang, widest, join, place, draw}
-use Rattle.layout.specs.Held.{facing, widthOn, widestOn}
-use Rattle.layout.specs.Width.{edge, turn}
+use Rattle.layout.specs.inner.Held.{facing, widthOn, widestOn}
+use Rattle.layout.specs.inner.Width.{edge, turn}
 use Rattle.layout.proofs.Motions.{width-shift, width-shifted, width-flip}
 use Rattle.layout.proofs.Rows.{size-mirror}
 use Rattle.layout.proofs.Spines.{spineTree, Light, light-end, light-node, light-spine, size-seen, size-over, Goes, goes-on, parts}
@@ -32,18 +32,18 @@ edge-wide : (e t : ℕ) (D : Layout) → max e (width (shift e t D)) ≡ e + wid
 edge-wide e t D = omega (arith, width-shift e t D, width-shifted e t (max e (width (shift e t D))) D (omega arith) (omega arith))
 
 -- Parts in the order of step 2, no drawing wider than W; after a switch (true) there is a knee.
-data Laid (W : ℕ) : Bool → List Part → Type 0 where
-  no-more : Laid W false []
-  a-knee : {b : Bool} {k : ℕ} {s : Side} {D : Layout} {ps : List Part} → width D ≤ W → Laid W false ps → Laid W b (part knee k s D ∷ ps)
-  an-ordinary : {k : ℕ} {s : Side} {D : Layout} {ps : List Part} → width D ≤ W → Laid W false ps → Laid W false (part ordinary k s D ∷ ps)
-  a-switch : {k : ℕ} {s : Side} {D : Layout} {ps : List Part} → width D ≤ W → Laid W true ps → Laid W false (part switch k s D ∷ ps)
+data InStep (W : ℕ) : Bool → List Part → Type 0 where
+  no-more : InStep W false []
+  a-knee : {b : Bool} {k : ℕ} {s : Side} {D : Layout} {ps : List Part} → width D ≤ W → InStep W false ps → InStep W b (part knee k s D ∷ ps)
+  an-ordinary : {k : ℕ} {s : Side} {D : Layout} {ps : List Part} → width D ≤ W → InStep W false ps → InStep W false (part ordinary k s D ∷ ps)
+  a-switch : {k : ℕ} {s : Side} {D : Layout} {ps : List Part} → width D ≤ W → InStep W true ps → InStep W false (part switch k s D ∷ ps)
 
 -- A knee is in column 0, so what follows a switch goes to the frame's other edge.
 flip-wide : (e k r : ℕ) (a b : Layout) → width (flip e (placed k (at 0 r) a b)) ≡ suc e
 unfolding flip width
 flip-wide e k r a b = omega (arith, width-flip e a, width-flip e b)
 
-turned-wide : (W H r p : ℕ) {ps : List Part} → Laid W true ps → width (flip (W + 2) (place W H r p ps .drawn)) ≡ W + 3
+turned-wide : (W H r p : ℕ) {ps : List Part} → InStep W true ps → width (flip (W + 2) (place W H r p ps .drawn)) ≡ W + 3
 unfolding place
 turned-wide W H r p (a-knee {s = left} h l) = flip-wide (W + 2) _ r _ _ ∙ omega arith
 turned-wide W H r p (a-knee {s = right} h l) = flip-wide (W + 2) _ r _ _ ∙ omega arith
@@ -54,7 +54,7 @@ grown : (b : Bool) (e W w x X R : ℕ) → e ≤ 2 → w ≤ W → max e x ≡ e
 grown true e W w x X R h i j k = (omega arith, omega arith)
 grown false e W w x X R h i j k = (omega arith, omega arith)
 
-laid-wide : (W H r p : ℕ) {b : Bool} {ps : List Part} → Laid W b ps → width (place W H r p ps .drawn) ≡ cond (turns ps) (W + 3) (reaches ps)
+laid-wide : (W H r p : ℕ) {b : Bool} {ps : List Part} → InStep W b ps → width (place W H r p ps .drawn) ≡ cond (turns ps) (W + 3) (reaches ps)
 unfolding place join width turns reaches
 laid-wide W H r p no-more = refl
 laid-wide W H r p (a-knee {s = left} {D} {ps} h l) = grown (turns ps) 1 W (width D) _ _ (reaches ps) (omega arith) h (edge-wide 1 _ D) (laid-wide W _ _ _ l) .0
@@ -65,13 +65,13 @@ laid-wide W H r p (a-switch {s = left} {D} {ps} h l) = omega (arith, edge-wide 1
 laid-wide W H r p (a-switch {s = right} {D} {ps} h l) = omega (arith, edge-wide 1 (r + 1) D, turned-wide W (r + height D + p) (r + 1) 0 l)
 
 -- The parts that follow a node of role o on the hand s are laid as step 2 says.
-run-laid : (W : ℕ) (l : SpineNode) (ps : List Part) → widest (hang draw (assigned (runRole l) l) ∷ ps) ≤ W → Laid W (turn (runRole l) false) ps → Laid W false (hang draw (assigned (runRole l) l) ∷ ps)
+run-laid : (W : ℕ) (l : SpineNode) (ps : List Part) → widest (hang draw (assigned (runRole l) l) ∷ ps) ≤ W → InStep W (turn (runRole l) false) ps → InStep W false (hang draw (assigned (runRole l) l) ∷ ps)
 unfolding hang runRole widest
 run-laid W (hangs k left none) ps w c = an-ordinary {D = draw none} (omega arith) c
 run-laid W (hangs k left (node i a b)) ps w c = a-switch {D = draw (node i a b)} (omega arith) c
 run-laid W (hangs k right t) ps w c = an-ordinary {D = draw t} (omega arith) c
 
-one-laid : (W : ℕ) (o : Role) (l : SpineNode) (ps : List Part) → widest (hang draw (assigned (roleAfter o l) l) ∷ ps) ≤ W → Laid W (turn (roleAfter o l) false) ps → Laid W (turn o false) (hang draw (assigned (roleAfter o l) l) ∷ ps)
+one-laid : (W : ℕ) (o : Role) (l : SpineNode) (ps : List Part) → widest (hang draw (assigned (roleAfter o l) l) ∷ ps) ≤ W → InStep W (turn (roleAfter o l) false) ps → InStep W (turn o false) (hang draw (assigned (roleAfter o l) l) ∷ ps)
 unfolding roleAfter hang widest
 one-laid W knee l ps w c = run-laid W l ps w c
 one-laid W ordinary l ps w c = run-laid W l ps w c
@@ -81,7 +81,7 @@ rest-less : (o : Role) (l : SpineNode) (ps : List Part) → widest ps ≤ widest
 unfolding hang widest
 rest-less o (hangs k s t) ps = omega arith
 
-laid : (n W : ℕ) (s : Side) (o : Role) {ls : List SpineNode} → Light n ls → Goes o ls → widest (parts draw s o ls) ≤ W → Laid W (turn o false) (parts draw s o ls)
+laid : (n W : ℕ) (s : Side) (o : Role) {ls : List SpineNode} → Light n ls → Goes o ls → widest (parts draw s o ls) ≤ W → InStep W (turn o false) (parts draw s o ls)
 unfolding rolesAfter spineTree size
 laid n W s knee light-end g w = no-more
 laid n W s ordinary light-end g w = no-more

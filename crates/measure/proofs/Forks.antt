@@ -14,9 +14,9 @@ use Rattle.table.specs.Tree.{Tree, node, size, treeAt}
 use Rattle.table.specs.Refusal.{fault}
 use Rattle.table.proofs.Accepted.{records-bounds, chain-within, links-chained, tree-unfolds}
 use Rattle.layout.specs.Spine.{hangs}
-use Rattle.layout.specs.Held.{spineOn}
-use Rattle.measure.specs.Sized.{Named, Sized}
-use Rattle.measure.specs.Forked.{sideOf, Forked}
+use Rattle.layout.specs.inner.Held.{spineOn}
+use Rattle.measure.specs.inner.Sized.{Named, Sized}
+use Rattle.measure.specs.inner.Forked.{sideOf, Forked}
 
 -- What a link names is within a list of 4097.
 pub named-within : (t : List ℕ) → fault t ≡ 0 → (k : ℕ) → Named t k → k < 4097

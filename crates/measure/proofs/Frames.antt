@@ -16,10 +16,10 @@ use Rattle.table.proofs.Lists.{same, same-one, count-append, member-count, repe
 use Rattle.table.proofs.Chain.{reached}
 use Rattle.table.proofs.Accepted.{links-chained, nodes-distinct, down, tree-unfolds, tree-none}
 use Rattle.layout.specs.Spine.{SpineNode, hangs, Role, seen, roleAfter, handAfter}
-use Rattle.layout.specs.Held.{spineOn, roleNext}
-use Rattle.measure.specs.Sized.{Named}
-use Rattle.measure.specs.Prepared.{codeOf, Prepared, no-spine, a-spine, Along, ended, onward}
-use Rattle.measure.specs.Roles.{withRoles}
+use Rattle.layout.specs.inner.Held.{spineOn, roleNext}
+use Rattle.measure.specs.inner.Sized.{Named}
+use Rattle.measure.specs.inner.Prepared.{codeOf, Prepared, no-spine, a-spine, Along, ended, onward}
+use Rattle.measure.specs.inner.Roles.{withRoles}
 
 -- How often x is a node of the spine or of what hangs from it; of what hangs from it.
 unfoldable pub countOn : ℕ → List SpineNode → ℕ
@@ -94,18 +94,18 @@ Agree c xs ys = (x : ℕ) → 1 ≤ c x → getD ys x 0 ≡ getD xs x 0
 mutual
   unfolding countOn countHung
 
-  pub prepared-frame : {R G : List ℕ} (R′ G′ : List ℕ) {s : Side} {S : Tree} → Prepared R G s S → Agree (λ x. count x (nodes S)) R R′ → Agree (λ x. count x (nodes S)) G G′ → Prepared R′ G′ s S
-  prepared-frame R′ G′ no-spine f g = no-spine
-  prepared-frame R′ G′ (a-spine {s} {k} {a} {b} w l) f g =
+  pub prepared-frame : {R W : List ℕ} (R′ W′ : List ℕ) {s : Side} {S : Tree} → Prepared R W s S → Agree (λ x. count x (nodes S)) R R′ → Agree (λ x. count x (nodes S)) W W′ → Prepared R′ W′ s S
+  prepared-frame R′ W′ no-spine f g = no-spine
+  prepared-frame R′ W′ (a-spine {s} {k} {a} {b} w l) f g =
       a-spine (g k (omega (arith, count-node k k a b, same-one k k refl)) ∙ w)
-      (along-frame R′ G′ l (λ x h. f x (omega (arith, count-spine s x (node k a b)))) (λ x h. g x (omega (arith, count-spine s x (node k a b), hung-on x (spineOn s (node k a b))))))
+      (along-frame R′ W′ l (λ x h. f x (omega (arith, count-spine s x (node k a b)))) (λ x h. g x (omega (arith, count-spine s x (node k a b), hung-on x (spineOn s (node k a b))))))
 
-  pub along-frame : {R G : List ℕ} (R′ G′ : List ℕ) {a : Side} {o : Role} {ls : List SpineNode} → Along R G a o ls → Agree (λ x. countOn x ls) R R′ → Agree (λ x. countHung x ls) G G′ → Along R′ G′ a o ls
-  along-frame R′ G′ ended f g = ended
-  along-frame R′ G′ (onward {k} {S} {ls} c p l) f g =
+  pub along-frame : {R W : List ℕ} (R′ W′ : List ℕ) {a : Side} {o : Role} {ls : List SpineNode} → Along R W a o ls → Agree (λ x. countOn x ls) R R′ → Agree (λ x. countHung x ls) W W′ → Along R′ W′ a o ls
+  along-frame R′ W′ ended f g = ended
+  along-frame R′ W′ (onward {k} {S} {ls} c p l) f g =
       onward (f k (omega (arith, same-one k k refl)) ∙ c)
-      (prepared-frame R′ G′ p (λ x h. f x (omega arith)) (λ x h. g x (omega arith)))
-      (along-frame R′ G′ l (λ x h. f x (omega arith)) (λ x h. g x (omega arith)))
+      (prepared-frame R′ W′ p (λ x h. f x (omega arith)) (λ x h. g x (omega arith)))
+      (along-frame R′ W′ l (λ x h. f x (omega arith)) (λ x h. g x (omega arith)))
 
 -- The roles from a spine node on, which follows a node of role o on the hand s, stand in the list R.
 abbrev pub Coded : List ℕ → Side → Role → List SpineNode → Type 0
@@ -134,9 +134,9 @@ with-coded s o (hangs k h S ∷ ls) rs d i = (
 
 -- What is prepared along a spine, after a node of role o on the hand a; with one more node before it.
 abbrev pub AlongAfter : List ℕ → List ℕ → Side → Role → List SpineNode → Type 0
-AlongAfter R G a o ls = Along R G (handAfter o a) (roleNext (handAfter o a) o ls) ls
+AlongAfter R W a o ls = Along R W (handAfter o a) (roleNext (handAfter o a) o ls) ls
 
-pub along-node : {R G : List ℕ} (a : Side) (o : Role) (k : ℕ) (h : Side) (S : Tree) (ls : List SpineNode) → let a′ = handAfter o a in let o′ = roleAfter o (seen a′ (hangs k h S)) in
-    getD R k 0 ≡ codeOf a′ o′ → Prepared R G a′ S → AlongAfter R G a′ o′ ls → AlongAfter R G a o (hangs k h S ∷ ls)
+pub along-node : {R W : List ℕ} (a : Side) (o : Role) (k : ℕ) (h : Side) (S : Tree) (ls : List SpineNode) → let a′ = handAfter o a in let o′ = roleAfter o (seen a′ (hangs k h S)) in
+    getD R k 0 ≡ codeOf a′ o′ → Prepared R W a′ S → AlongAfter R W a′ o′ ls → AlongAfter R W a o (hangs k h S ∷ ls)
 unfolding roleNext
 along-node a o k h S ls c p l = onward c p l

@@ -3,4 +3,4 @@ pub mod Forks
 pub mod Choices
 pub mod Spines
 pub mod Frames
-pub mod Walks
+pub mod Surveys

@@ -12,13 +12,13 @@ use Rattle.table.specs.Tree.{Tree, none, node, treeAt}
 use Rattle.table.specs.Refusal.{fault}
 use Rattle.table.proofs.Accepted.{tree-unfolds, tree-none}
 use Rattle.layout.specs.Spine.{SpineNode, Role as LayoutRole, seen, roleAfter, handAfter}
-use Rattle.layout.specs.Held.{spineOn}
+use Rattle.layout.specs.inner.Held.{spineOn}
 use Rattle.measure.specs.declared.Fork.{Fork}
 use Rattle.measure.specs.declared.roles.Role.{Role}
-use Rattle.measure.specs.Sized.{Named}
-use Rattle.measure.specs.Forked.{sideOf, Forked}
-use Rattle.measure.specs.Prepared.{codeOf}
-use Rattle.measure.specs.Roles.{handOf, roleOf, nodeOf, Follows, withRoles}
+use Rattle.measure.specs.inner.Sized.{Named}
+use Rattle.measure.specs.inner.Forked.{sideOf, Forked}
+use Rattle.measure.specs.inner.Prepared.{codeOf}
+use Rattle.measure.specs.inner.Roles.{handOf, roleOf, nodeOf, Follows, withRoles}
 
 -- A record that is not zero is chained; one that stands for no tree is zero.
 pub chained : (t : List ℕ) (k : ℕ) → Named t k → (k ≡ 0 → ⊥) → T (member k (chain t))

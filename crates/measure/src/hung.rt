@@ -3,41 +3,39 @@ use crate::fork_at;
 use crate::roles::choose_roles;
 use crate::roles::is_right;
 use crate::roles::role_at;
-use crate::walk::Walk;
-use crate::walk::onward;
-use crate::walk::width_of;
+use crate::survey::Survey;
+use crate::survey::onward;
+use crate::survey::width_of;
 ghost use mathlib.Core.Path.{_≡_};
-ghost use lib.Dec.{T};
 ghost use lib.ListN.{length};
-ghost use Rattle.table.specs.Lists.{member};
-ghost use Rattle.table.specs.Table.{left, right, chain};
+ghost use Rattle.table.specs.Table.{left, right, Chained};
 ghost use Rattle.table.specs.Refusal.{fault};
-ghost use Rattle.measure.specs.Sized.{Named, Sized};
-ghost use Rattle.measure.specs.Forked.{sideOf};
-ghost use Rattle.measure.specs.Measured.{Measured};
+ghost use Rattle.measure.specs.inner.Sized.{Named, Sized};
+ghost use Rattle.measure.specs.inner.Forked.{sideOf};
+ghost use Rattle.measure.specs.inner.Measured.{Measured};
 
 // A hung subtree, 0 for none, for a drawing on the left side or on the right.
 fn measure_hung(
     table: &[u8],
     sizes: &[u16],
     roles: &mut [u16],
-    gaps: &mut [u16],
+    widest: &mut [u16],
     child: usize,
     mirrored: bool,
 ) -> usize
     requires { ⌜ fault (now table) ≡ 0 ⌝ }
     requires { ⌜ Named (now table) child ⌝ }
     requires { ⌜ Sized (now table) (now sizes) ⌝ }
-    requires { ⌜ (length (now roles) ≡ 4097) × (length (now gaps) ≡ 4097) ⌝ }
-    ensures { λ r. ⌜ Measured (now (table .entry)) (sideOf mirrored) child (now (roles .entry)) (now (gaps .entry)) (now (roles .exit)) (now (gaps .exit)) r ⌝ }
+    requires { ⌜ (length (now roles) ≡ 4097) × (length (now widest) ≡ 4097) ⌝ }
+    ensures { λ r. ⌜ Measured (now (table .entry)) (sideOf mirrored) child (now (roles .entry)) (now (widest .entry)) (now (roles .exit)) (now (widest .exit)) r ⌝ }
 {
     if child == 0 {
         return 0;
     }
     if mirrored {
-        return measure_right(table, sizes, roles, gaps, child);
+        return measure_right(table, sizes, roles, widest, child);
     }
-    measure_left(table, sizes, roles, gaps, child)
+    measure_left(table, sizes, roles, widest, child)
 }
 
 // A subtree for a drawing on the left side.
@@ -45,16 +43,16 @@ pub fn measure_left(
     table: &[u8],
     sizes: &[u16],
     roles: &mut [u16],
-    gaps: &mut [u16],
+    widest: &mut [u16],
     root: usize,
 ) -> usize
     requires { ⌜ fault (now table) ≡ 0 ⌝ }
-    requires { ⌜ T (member root (chain (now table))) ⌝ }
+    requires { ⌜ Chained (now table) root ⌝ }
     requires { ⌜ Sized (now table) (now sizes) ⌝ }
-    requires { ⌜ (length (now roles) ≡ 4097) × (length (now gaps) ≡ 4097) ⌝ }
-    ensures { λ r. ⌜ Measured (now (table .entry)) left root (now (roles .entry)) (now (gaps .entry)) (now (roles .exit)) (now (gaps .exit)) r ⌝ }
+    requires { ⌜ (length (now roles) ≡ 4097) × (length (now widest) ≡ 4097) ⌝ }
+    ensures { λ r. ⌜ Measured (now (table .entry)) left root (now (roles .entry)) (now (widest .entry)) (now (roles .exit)) (now (widest .exit)) r ⌝ }
 {
-    measure_spine(table, sizes, roles, gaps, root, false)
+    measure_spine(table, sizes, roles, widest, root, false)
 }
 
 // A subtree for a drawing on the right side.
@@ -62,16 +60,16 @@ fn measure_right(
     table: &[u8],
     sizes: &[u16],
     roles: &mut [u16],
-    gaps: &mut [u16],
+    widest: &mut [u16],
     root: usize,
 ) -> usize
     requires { ⌜ fault (now table) ≡ 0 ⌝ }
-    requires { ⌜ T (member root (chain (now table))) ⌝ }
+    requires { ⌜ Chained (now table) root ⌝ }
     requires { ⌜ Sized (now table) (now sizes) ⌝ }
-    requires { ⌜ (length (now roles) ≡ 4097) × (length (now gaps) ≡ 4097) ⌝ }
-    ensures { λ r. ⌜ Measured (now (table .entry)) right root (now (roles .entry)) (now (gaps .entry)) (now (roles .exit)) (now (gaps .exit)) r ⌝ }
+    requires { ⌜ (length (now roles) ≡ 4097) × (length (now widest) ≡ 4097) ⌝ }
+    ensures { λ r. ⌜ Measured (now (table .entry)) right root (now (roles .entry)) (now (widest .entry)) (now (roles .exit)) (now (widest .exit)) r ⌝ }
 {
-    measure_spine(table, sizes, roles, gaps, root, true)
+    measure_spine(table, sizes, roles, widest, root, true)
 }
 
 // The roles of the spine first, then what hangs from it, then its W.
@@ -79,30 +77,30 @@ fn measure_spine(
     table: &[u8],
     sizes: &[u16],
     roles: &mut [u16],
-    gaps: &mut [u16],
+    widest: &mut [u16],
     root: usize,
     mirrored: bool,
 ) -> usize
     requires { ⌜ fault (now table) ≡ 0 ⌝ }
-    requires { ⌜ T (member root (chain (now table))) ⌝ }
+    requires { ⌜ Chained (now table) root ⌝ }
     requires { ⌜ Sized (now table) (now sizes) ⌝ }
-    requires { ⌜ (length (now roles) ≡ 4097) × (length (now gaps) ≡ 4097) ⌝ }
-    ensures { λ r. ⌜ Measured (now (table .entry)) (sideOf mirrored) root (now (roles .entry)) (now (gaps .entry)) (now (roles .exit)) (now (gaps .exit)) r ⌝ }
+    requires { ⌜ (length (now roles) ≡ 4097) × (length (now widest) ≡ 4097) ⌝ }
+    ensures { λ r. ⌜ Measured (now (table .entry)) (sideOf mirrored) root (now (roles .entry)) (now (widest .entry)) (now (roles .exit)) (now (widest .exit)) r ⌝ }
 {
     choose_roles(table, sizes, roles, root, mirrored);
-    let mut walk = Walk {
+    let mut survey = Survey {
         at: root,
-        gap: 0,
+        widest: 0,
         reach: 0,
         turned: false,
     };
-    while walk.at != 0 {
-        let at = walk.at;
+    while survey.at != 0 {
+        let at = survey.at;
         let fork = fork_at(table, sizes, at, mirrored);
         let role = role_at(roles, at);
-        let width = measure_hung(table, sizes, roles, gaps, fork.hung, is_right(role));
-        walk = onward(walk, role, width, fork.spine);
+        let width = measure_hung(table, sizes, roles, widest, fork.hung, is_right(role));
+        survey = onward(survey, role, width, fork.spine);
     }
-    gaps[root] = walk.gap as u16;
-    width_of(walk)
+    widest[root] = survey.widest as u16;
+    width_of(survey)
 }

@@ -1,27 +1,33 @@
 // Spines measured before they are drawn: the roles of every spine, and its W.
 mod hung;
 pub mod roles;
-mod walk;
+mod survey;
 
 use crate::hung::measure_left;
 use table::words::left;
 use table::words::right;
 ghost use mathlib.Core.Path.{_≡_};
 ghost use mathlib.Core.Bool.{cond};
-ghost use lib.Dec.{T, leb, ltb};
+ghost use Prim.Native.Nat.{max};
+ghost use lib.Dec.{leb, ltb};
 ghost use lib.ListN.{length};
-ghost use Rattle.table.specs.Lists.{member};
-ghost use Rattle.table.specs.Table.{left as leftSide, chain};
+ghost use Rattle.table.specs.Table.{left as leftSide, Chained};
 ghost use Rattle.table.specs.Refusal.{fault};
-ghost use Rattle.measure.specs.Sized.{Sized};
-ghost use Rattle.measure.specs.Forked.{Forked, sideOf};
-ghost use Rattle.measure.specs.Measured.{Measured};
+ghost use Rattle.measure.specs.inner.Sized.{Sized};
+ghost use Rattle.measure.specs.inner.Forked.{Forked, sideOf};
+ghost use Rattle.measure.specs.inner.Measured.{Measured};
 
 // The child that a spine goes on to, the child off the spine, 0 for none, and whether that one is the right child.
 pub struct Fork {
     pub spine: usize,
     pub hung: usize,
     pub hung_right: bool,
+}
+
+pub fn most(a: usize, b: usize) -> usize
+    ensures { λ r. ⌜ r ≡ max a b ⌝ }
+{
+    if a < b { b } else { a }
 }
 
 // Whether a spine goes on to the right child, from the sizes of the two subtrees: of equal ones it takes that on its side.
@@ -37,7 +43,7 @@ fn goes_right(a: u16, b: u16, mirrored: bool) -> bool
 // The fork of a spine at a node, in a drawing on the left side or on the right.
 pub fn fork_at(table: &[u8], sizes: &[u16], at: usize, mirrored: bool) -> Fork
     requires { ⌜ fault (now table) ≡ 0 ⌝ }
-    requires { ⌜ T (member at (chain (now table))) ⌝ }
+    requires { ⌜ Chained (now table) at ⌝ }
     requires { ⌜ Sized (now table) (now sizes) ⌝ }
     ensures { λ r. ⌜ Forked (now (table .entry)) (sideOf mirrored) at (r .spine) (r .hung) (sideOf (r .«hung_right»)) ⌝ }
 {
@@ -62,14 +68,14 @@ pub fn prepare(
     table: &[u8],
     sizes: &[u16],
     roles: &mut [u16],
-    gaps: &mut [u16],
+    widest: &mut [u16],
     root: usize,
 ) -> usize
     requires { ⌜ fault (now table) ≡ 0 ⌝ }
-    requires { ⌜ T (member root (chain (now table))) ⌝ }
+    requires { ⌜ Chained (now table) root ⌝ }
     requires { ⌜ Sized (now table) (now sizes) ⌝ }
-    requires { ⌜ (length (now roles) ≡ 4097) × (length (now gaps) ≡ 4097) ⌝ }
-    ensures { λ r. ⌜ Measured (now (table .entry)) leftSide root (now (roles .entry)) (now (gaps .entry)) (now (roles .exit)) (now (gaps .exit)) r ⌝ }
+    requires { ⌜ (length (now roles) ≡ 4097) × (length (now widest) ≡ 4097) ⌝ }
+    ensures { λ r. ⌜ Measured (now (table .entry)) leftSide root (now (roles .entry)) (now (widest .entry)) (now (roles .exit)) (now (widest .exit)) r ⌝ }
 {
-    measure_left(table, sizes, roles, gaps, root)
+    measure_left(table, sizes, roles, widest, root)
 }

@@ -3,19 +3,17 @@ use crate::Fork;
 use crate::fork_at;
 ghost use mathlib.Core.Path.{_≡_};
 ghost use Prim.Native.Nat.{_<_};
-ghost use lib.Dec.{T};
 ghost use lib.ListN.{getD, length};
-ghost use Rattle.table.specs.Lists.{member};
-ghost use Rattle.table.specs.Table.{left, right, chain};
+ghost use Rattle.table.specs.Table.{left, right, Chained};
 ghost use Rattle.table.specs.Tree.{treeAt};
 ghost use Rattle.table.specs.Refusal.{fault};
 ghost use Rattle.layout.specs.Spine.{opposite, knee, switch};
-ghost use Rattle.layout.specs.Held.{spineOn};
-ghost use Rattle.layout.specs.Width.{edge};
-ghost use Rattle.measure.specs.Sized.{Sized};
-ghost use Rattle.measure.specs.Forked.{sideOf};
-ghost use Rattle.measure.specs.Prepared.{codeOf};
-ghost use Rattle.measure.specs.Roles.{handOf, roleOf, isSwitch, Runs, Follows, withRoles};
+ghost use Rattle.layout.specs.inner.Held.{spineOn};
+ghost use Rattle.layout.specs.inner.Width.{edge};
+ghost use Rattle.measure.specs.inner.Sized.{Sized};
+ghost use Rattle.measure.specs.inner.Forked.{sideOf};
+ghost use Rattle.measure.specs.inner.Prepared.{codeOf};
+ghost use Rattle.measure.specs.inner.Roles.{handOf, roleOf, isSwitch, Runs, Follows, withRoles};
 
 // Document 01's six roles; specs/Roles gives the hand of each, and what it is on that hand.
 pub enum Role {
@@ -161,7 +159,7 @@ fn first_switch(mirrored: bool) -> Role
 // Keeps the roles of the spine from `root` on, each at its node's record.
 pub fn choose_roles(table: &[u8], sizes: &[u16], roles: &mut [u16], root: usize, mirrored: bool)
     requires { ⌜ fault (now table) ≡ 0 ⌝ }
-    requires { ⌜ T (member root (chain (now table))) ⌝ }
+    requires { ⌜ Chained (now table) root ⌝ }
     requires { ⌜ Sized (now table) (now sizes) ⌝ }
     requires { ⌜ length (now roles) ≡ 4097 ⌝ }
     ensures { λ _. ⌜ now (roles .exit) ≡ withRoles (opposite (sideOf mirrored)) switch (spineOn (sideOf mirrored) (treeAt (now (table .entry)) root)) (now (roles .entry)) ⌝ }

@@ -1,2 +1,2 @@
--- What the program's reading of its input says of its buffer.
-pub mod Input
+-- What the program prints is in the crate `text`.
+pub mod inner

@@ -4,7 +4,7 @@ use libc::STDIN_FILENO;
 use libc::STDOUT_FILENO;
 ghost use Prim.Native.Nat.{_+_, _≤_};
 ghost use lib.ListN.{length};
-ghost use Rattle.plan.specs.Input.{countOf};
+ghost use Rattle.plan.specs.inner.Input.{countOf};
 
 // How many bytes were read, or that a read failed.
 enum Input {

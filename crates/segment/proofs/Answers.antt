@@ -8,7 +8,7 @@ use lib.IntN.{ℤ, pos}
 use lib.Signed.{leZ}
 use Rattle.segment.specs.declared.Point.{Point}
 use Rattle.segment.specs.Segment.{cross}
-use Rattle.segment.specs.Test.{overlap, spans, astride}
+use Rattle.segment.specs.inner.Test.{overlap, spans, astride}
 use Rattle.segment.proofs.Decides.{Decides}
 use Rattle.segment.proofs.SharedPoint.{meets}
 

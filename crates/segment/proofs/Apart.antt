@@ -7,27 +7,27 @@ use native.Mathlib.Decide.{decLt}
 use native.Mathlib.Omega.{arith}
 use Rattle.segment.specs.declared.Point.{Point}
 use Rattle.segment.specs.Segment.{Clash}
-use Rattle.segment.specs.Test.{flip, number}
+use Rattle.segment.specs.inner.Test.{transpose, number}
 use Rattle.segment.proofs.CrossProduct.{Weights, weights}
-use Rattle.segment.proofs.SharedPoint.{on-flip}
+use Rattle.segment.proofs.SharedPoint.{on-transpose}
 use Rattle.segment.proofs.Clashing.{point, at-end, at-point, clash-rows-apart}
 
 -- ---- rows for columns
 
--- also backwards, since flip (flip P) is P
-pub clash-flip : (P Q R S : Point) → Clash P Q R S → Clash (flip P) (flip Q) (flip R) (flip S)
-clash-flip P Q R S h = record {
+-- also backwards, since transpose (transpose P) is P
+pub clash-transpose : (P Q R S : Point) → Clash P Q R S → Clash (transpose P) (transpose Q) (transpose R) (transpose S)
+clash-transpose P Q R S h = record {
   q = h .q;
   x = h .y;
   y = h .x;
   q≥1 = h .q≥1;
-  on-PQ = on-flip (flip P) (flip Q) (h .on-PQ);
-  on-RS = on-flip (flip R) (flip S) (h .on-RS);
-  no-common-end = λ E a b i. h .no-common-end (flip E) (⊎-map (ap flip) (ap flip) a) (⊎-map (ap flip) (ap flip) b) (record { in-column = i .in-row; in-row = i .in-column });
+  on-PQ = on-transpose (transpose P) (transpose Q) (h .on-PQ);
+  on-RS = on-transpose (transpose R) (transpose S) (h .on-RS);
+  no-common-end = λ E a b i. h .no-common-end (transpose E) (⊎-map (ap transpose) (ap transpose) a) (⊎-map (ap transpose) (ap transpose) b) (record { in-column = i .in-row; in-row = i .in-column });
 }
 
 pub clash-columns-apart : {P Q R S : Point} → max (P .column) (Q .column) < min (R .column) (S .column) → Clash P Q R S → ⊥
-clash-columns-apart {P} {Q} {R} {S} h c = clash-rows-apart h (clash-flip P Q R S c)
+clash-columns-apart {P} {Q} {R} {S} h c = clash-rows-apart h (clash-transpose P Q R S c)
 
 -- ---- points by their numbers
 

@@ -8,13 +8,13 @@ use lib.IntN.{ℤ, pos, negsuc, negℤ, subℕ, _+ℤ_, _-ℤ_, _*ℤ_}
 use lib.Signed.{leZ, ltZ}
 use Rattle.segment.proofs.Decides.{Decides}
 
-abbrev pub Is : ℤ → ℕ → ℕ → Type 0
-Is (pos n) a b = a ≡ b + n
-Is (negsuc n) a b = b ≡ a + suc n
+abbrev pub IsMinus : ℤ → ℕ → ℕ → Type 0
+IsMinus (pos n) a b = a ≡ b + n
+IsMinus (negsuc n) a b = b ≡ a + suc n
 
 -- z is a - b. A record, so that z, a and b are inferred
 pub record Diff (z : ℤ) (a b : ℕ) : Type 0 where
-  pub is : Is z a b
+  pub is : IsMinus z a b
 
 -- another difference that is the same
 pub diff-same : (z : ℤ) {a b a′ b′ : ℕ} → Diff z a b → a + b′ ≡ a′ + b → Diff z a′ b′

@@ -9,7 +9,7 @@ use native.Mathlib.Omega.{arith}
 use lib.Dec.{T}
 use Rattle.segment.specs.declared.Point.{Point}
 use Rattle.segment.specs.Segment.{On, Share, Lies}
-use Rattle.segment.specs.Test.{overlap, spans, astride, flip}
+use Rattle.segment.specs.inner.Test.{overlap, spans, astride, transpose}
 use Rattle.segment.proofs.Decides.{Decides, le-decides, and-decides, or-decides, same-meaning}
 use Rattle.segment.proofs.Difference.{diff-nonneg, diff-nonpos}
 use Rattle.segment.proofs.CrossProduct.{plus, minus, cross-diff, weights, on, on-turn, linear, cramer-column, cramer-row}
@@ -53,11 +53,11 @@ pub share-turn : {P Q R S : Point} → Share P Q R S → Share P Q S R
 share-turn h = record { q = h .q; x = h .x; y = h .y; q≥1 = h .q≥1; on-PQ = h .on-PQ; on-RS = on-turn (h .on-RS) }
 
 -- rows for columns
-pub on-flip : (A B : Point) {q x y : ℕ} → On (flip A) (flip B) q x y → On A B q y x
-on-flip A B o = record { s = o .s; s≤q = o .s≤q; at-column = o .at-row; at-row = o .at-column }
+pub on-transpose : (A B : Point) {q x y : ℕ} → On (transpose A) (transpose B) q x y → On A B q y x
+on-transpose A B o = record { s = o .s; s≤q = o .s≤q; at-column = o .at-row; at-row = o .at-column }
 
-share-flip : (P Q R S : Point) → Share (flip P) (flip Q) (flip R) (flip S) → Share P Q R S
-share-flip P Q R S h = record { q = h .q; x = h .y; y = h .x; q≥1 = h .q≥1; on-PQ = on-flip P Q (h .on-PQ); on-RS = on-flip R S (h .on-RS) }
+share-transpose : (P Q R S : Point) → Share (transpose P) (transpose Q) (transpose R) (transpose S) → Share P Q R S
+share-transpose P Q R S h = record { q = h .q; x = h .y; y = h .x; q≥1 = h .q≥1; on-PQ = on-transpose P Q (h .on-PQ); on-RS = on-transpose R S (h .on-RS) }
 
 -- ---- a shared point gives the test
 
@@ -191,7 +191,7 @@ in-line P Q R S z₁ z₂ z₃ z₄ n o = go (decLt _ _) (decLt _ _)
     go : Dec (min (P .column) (Q .column) + min (R .column) (S .column) < max (P .column) (Q .column) + max (R .column) (S .column)) →
         Dec (min (P .row) (Q .row) + min (R .row) (S .row) < max (P .row) (Q .row) + max (R .row) (S .row)) → Share P Q R S
     go (yes w) k = wide-line P Q R S (record { z₁ = z₁; z₂ = z₂; z₃ = z₃; z₄ = z₄; low = o .0; high = o .1; wide = w })
-    go (no w) (yes k) = share-flip P Q R S (wide-line (flip P) (flip Q) (flip R) (flip S)
+    go (no w) (yes k) = share-transpose P Q R S (wide-line (transpose P) (transpose Q) (transpose R) (transpose S)
         (record { z₁ = omega (arith, z₁); z₂ = omega (arith, z₂); z₃ = omega (arith, z₃); z₄ = omega (arith, z₄); low = n .0; high = n .1; wide = k }))
     go (no w) (no k) = record {
       q = 1;

@@ -1,3 +1,3 @@
--- The meaning of line segments in whole numbers (document 01, "What the sheet check says"), and the tests that the code makes.
+-- The meaning of line segments in whole numbers (document 01, "What the sheet check says").
 pub mod Segment
-pub mod Test
+pub mod inner

@@ -5,7 +5,7 @@ ghost use Prim.Native.Nat.{min, max};
 ghost use lib.Dec.{T};
 ghost use lib.IntN.{pos, _-ℤ_};
 ghost use Rattle.segment.specs.Segment as Meaning;
-ghost use Rattle.segment.specs.Test as Test;
+ghost use Rattle.segment.specs.inner.Test as Test;
 
 // A point of the grid: column 0 is leftmost, row 0 the top, rows grow downward.
 pub struct Point {

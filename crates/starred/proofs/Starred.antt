@@ -14,7 +14,7 @@ use Rattle.layout.specs.Drawing.{hang, widest, join, place, steps, drawing, dra
 use Rattle.drawing.specs.declared.Drawn.{Drawn}
 use Rattle.drawing.specs.Answer.{store, planOf, drawnOf, placedIn}
 use Rattle.segment.specs.Segment.{cross}
-use Rattle.segment.specs.Test.{overlap, spans, astride}
+use Rattle.segment.specs.inner.Test.{overlap, spans, astride}
 use Rattle.segment.proofs.SharedPoint.{meets}
 use Rattle.segment.proofs.Clashing.{same as samePlace, along, clashes}
 use Rattle.verdict.specs.Verdict.{Verdict}

@@ -11,15 +11,15 @@ use lib.Seq.{getD-set-same, getD-set-other}
 use Rattle.segment.specs.declared.Point.{Point}
 use Rattle.segment.specs.Segment.{Clash}
 use Rattle.segment.proofs.Clashing.{clash-turn, clash-turn-first}
-use Rattle.segment.proofs.Apart.{clash-flip}
-use Rattle.segment.specs.Test.{flip, number}
-use Rattle.sort.specs.Order.{Rearranged}
+use Rattle.segment.proofs.Apart.{clash-transpose}
+use Rattle.segment.specs.inner.Test.{transpose, number}
+use Rattle.sort.specs.inner.Order.{Rearranged}
 use Rattle.sort.proofs.Rearranging.{turned, all-one, any-two, all-two}
 use Rattle.sweep.specs.declared.meeting.Meeting.{Meeting}
-use Rattle.sweep.specs.declared.meeting.Meeting.the-variants.{Apart, Clashing}
-use Rattle.sweep.specs.Line.{startOf, endOf, first, last, Onward}
-use Rattle.sweep.specs.Meetings.{Meets, Met, NoWorse, Worst}
-use Rattle.sweep.specs.Arranged.{view, Joined, Arranged, Aligned}
+use Rattle.sweep.specs.declared.meeting.Meeting.the-variants.{Clear, Clashing}
+use Rattle.sweep.specs.inner.Line.{startOf, endOf, first, last, Onward}
+use Rattle.sweep.specs.inner.Meetings.{Meets, Met, NoWorse, Worst}
+use Rattle.sweep.specs.inner.Arranged.{view, Joined, Arranged, Aligned}
 use Rattle.sweep.proofs.Numbers.{number-first, number-last}
 use Rattle.sweep.proofs.Grades.{exchange, worst-at}
 
@@ -64,11 +64,11 @@ joined-back x = record { ends = ⊎-swap (x .ends); onward = x .onward }
 -- ---- the meeting of two lines so seen
 
 iff-meets : (m : Meeting) (P Q R S A B C D : Point) → Clash P Q R S ↔ Clash A B C D → Meets m P Q R S → Meets m A B C D
-iff-meets Apart P Q R S A B C D h x = λ c. x (h .1 c)
+iff-meets Clear P Q R S A B C D h x = λ c. x (h .1 c)
 iff-meets Clashing P Q R S A B C D h x = h .0 x
 
 view-clash : (across : Bool) (P Q R S : Point) → Clash (view across P) (view across Q) (view across R) (view across S) ↔ Clash P Q R S
-view-clash true P Q R S = (clash-flip (flip P) (flip Q) (flip R) (flip S), clash-flip P Q R S)
+view-clash true P Q R S = (clash-transpose (transpose P) (transpose Q) (transpose R) (transpose S), clash-transpose P Q R S)
 view-clash false P Q R S = (λ c. c, λ c. c)
 
 -- The ends of a line, in one order or the other.

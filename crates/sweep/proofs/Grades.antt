@@ -10,43 +10,43 @@ use Rattle.segment.specs.declared.Point.{Point}
 use Rattle.segment.specs.Segment.{Clash}
 use Rattle.segment.proofs.Clashing.{clash-exchange}
 use Rattle.segment.proofs.Apart.{clash-columns-apart, numbers-apart}
-use Rattle.sort.specs.Order.{Below, Pairs, Ascending}
+use Rattle.sort.specs.inner.Order.{Below, Pairs, Ascending}
 use Rattle.sweep.specs.declared.meeting.Meeting.{Meeting}
-use Rattle.sweep.specs.declared.meeting.Meeting.the-variants.{Apart, Clashing}
-use Rattle.sweep.specs.Line.{startOf, endOf, first, last, Onward}
-use Rattle.sweep.specs.Meetings.{Meets, grade, Worse, Met, NoWorse, WorstFrom, Worst}
+use Rattle.sweep.specs.declared.meeting.Meeting.the-variants.{Clear, Clashing}
+use Rattle.sweep.specs.inner.Line.{startOf, endOf, first, last, Onward}
+use Rattle.sweep.specs.inner.Meetings.{Meets, grade, Worse, Met, NoWorse, WorstFrom, Worst}
 use Rattle.sweep.proofs.Numbers.{number-first, number-last, start-fits, end-fits}
 
 -- ---- kinds of meeting: all that is said of them by cases
 
 -- Two lines meet in one way.
 once : (k m : Meeting) (P Q R S : Point) → Meets k P Q R S → Meets m P Q R S → k ≡ m
-once Apart Apart P Q R S a b = refl
-once Apart Clashing P Q R S a b = absurd (a b)
-once Clashing Apart P Q R S a b = absurd (b a)
+once Clear Clear P Q R S a b = refl
+once Clear Clashing P Q R S a b = absurd (a b)
+once Clashing Clear P Q R S a b = absurd (b a)
 once Clashing Clashing P Q R S a b = refl
 
 pub exchange : (m : Meeting) (P Q R S : Point) → Meets m P Q R S → Meets m R S P Q
-exchange Apart P Q R S a = λ c. a (clash-exchange c)
+exchange Clear P Q R S a = λ c. a (clash-exchange c)
 exchange Clashing P Q R S a = clash-exchange a
 
-pub worse-apart : (a b : Meeting) → a ≡ Apart → Worse a b b
-worse-apart a b e = record { either = inr refl; first = rw e (omega arith); second = omega arith }
+pub worse-clear : (a b : Meeting) → a ≡ Clear → Worse a b b
+worse-clear a b e = record { either = inr refl; first = rw e (omega arith); second = omega arith }
 
 pub worse-clashing : (a b : Meeting) → a ≡ Clashing → Worse a b a
 worse-clashing a b e = record { either = inl refl; first = omega arith; second = rw e (graded b) }
   where
     graded : (b : Meeting) → grade b ≤ 1
-    graded Apart = omega arith
+    graded Clear = omega arith
     graded Clashing = omega arith
 
 pub worst-grade : (m k : Meeting) → grade m ≡ 1 → grade k ≤ grade m
-worst-grade m Apart h = omega arith
+worst-grade m Clear h = omega arith
 worst-grade m Clashing h = omega arith
 
-apart-grade : (m k : Meeting) (P Q R S : Point) → (Clash P Q R S → ⊥) → Meets k P Q R S → grade k ≤ grade m
-apart-grade m Apart P Q R S h a = omega arith
-apart-grade m Clashing P Q R S h a = absurd (h a)
+clear-grade : (m k : Meeting) (P Q R S : Point) → (Clash P Q R S → ⊥) → Meets k P Q R S → grade k ≤ grade m
+clear-grade m Clear P Q R S h a = omega arith
+clear-grade m Clashing P Q R S h a = absurd (h a)
 
 -- ---- no worse
 
@@ -54,7 +54,7 @@ met-no-worse : (m k : Meeting) (x y : ℕ) → Met k x y → grade k ≤ grade m
 met-no-worse m k x y a h = record { no-worse = λ z b. subst (λ (w : Meeting). grade w ≤ grade m) (once k z (startOf x) (endOf x) (startOf y) (endOf y) a b) h }
 
 apart-no-worse : (m : Meeting) (x y : ℕ) → (Clash (startOf x) (endOf x) (startOf y) (endOf y) → ⊥) → NoWorse m x y
-apart-no-worse m x y h = record { no-worse = λ k a. apart-grade m k (startOf x) (endOf x) (startOf y) (endOf y) h a }
+apart-no-worse m x y h = record { no-worse = λ k a. clear-grade m k (startOf x) (endOf x) (startOf y) (endOf y) h a }
 
 no-worse-up : {m r : Meeting} {x y : ℕ} → grade m ≤ grade r → NoWorse m x y → NoWorse r x y
 no-worse-up h n = record { no-worse = λ k a. omega (arith, n .no-worse k a) }
@@ -72,16 +72,16 @@ ended a b h k l x = numbers-apart 65536 (start-fits a) (end-fits a) (end-fits b)
 
 -- ---- the worst meeting with line i, from the line before it downwards
 
-pub from-none : (i : ℕ) (l : List ℕ) → WorstFrom i i l Apart
+pub from-none : (i : ℕ) (l : List ℕ) → WorstFrom i i l Clear
 from-none i l = record { found = inl refl; none-worse = λ a h k. absurd (omega arith) }
 
 pub from-more : {j k i : ℕ} {l : List ℕ} {w r : Meeting} (m : Meeting) → j < i → k ≡ j + 1 → WorstFrom k i l w → Met m (getD l j 0) (getD l i 0) → Worse w m r → WorstFrom j i l r
 from-more {j} {k} {i} {l} {w} {r} m h e′ f a b = record { found = ⊎-elim old new (b .either); none-worse = λ x g k. go x g k (ℕ-discrete x j) }
   where
-    old : r ≡ w → (r ≡ Apart) ⊎ Below i (λ x. Met r (getD l x 0) (getD l i 0))
-    old e = subst (λ (z : Meeting). (z ≡ Apart) ⊎ Below i (λ x. Met z (getD l x 0) (getD l i 0))) (sym e) (f .found)
+    old : r ≡ w → (r ≡ Clear) ⊎ Below i (λ x. Met r (getD l x 0) (getD l i 0))
+    old e = subst (λ (z : Meeting). (z ≡ Clear) ⊎ Below i (λ x. Met z (getD l x 0) (getD l i 0))) (sym e) (f .found)
 
-    new : r ≡ m → (r ≡ Apart) ⊎ Below i (λ x. Met r (getD l x 0) (getD l i 0))
+    new : r ≡ m → (r ≡ Clear) ⊎ Below i (λ x. Met r (getD l x 0) (getD l i 0))
     new e = inr (j, h, subst (λ (z : Meeting). Met z (getD l j 0) (getD l i 0)) (sym e) a)
 
     go : (x : ℕ) → j ≤ x → x < i → Dec (x ≡ j) → NoWorse r (getD l x 0) (getD l i 0)
@@ -109,7 +109,7 @@ met-by m e f g h x = rw (← e, ← f, ← g, ← h) x
 
 -- ---- the worst meeting of two lines
 
-pub worst-none : (l : List ℕ) → Worst 0 l Apart
+pub worst-none : (l : List ℕ) → Worst 0 l Clear
 worst-none l = record { found = inl refl; none-worse = λ i j h k. absurd (omega arith) }
 
 pub worst-more : {i : ℕ} {l : List ℕ} {w m r : Meeting} → Worst i l w → WorstFrom 0 i l m → Worse w m r → Worst (i + 1) l r
@@ -118,11 +118,11 @@ worst-more {i} {l} {w} {m} {r} f a b = record { found = ⊎-elim old new (b .eit
     wider : (z : Meeting) → Pairs i (λ x y. Met z (getD l x 0) (getD l y 0)) → Pairs (i + 1) (λ x y. Met z (getD l x 0) (getD l y 0))
     wider z (y, h, p) = (y, omega arith, p)
 
-    old : r ≡ w → (r ≡ Apart) ⊎ Pairs (i + 1) (λ x y. Met r (getD l x 0) (getD l y 0))
-    old e = subst (λ (z : Meeting). (z ≡ Apart) ⊎ Pairs (i + 1) (λ x y. Met z (getD l x 0) (getD l y 0))) (sym e) (⊎-map (λ z. z) (wider w) (f .found))
+    old : r ≡ w → (r ≡ Clear) ⊎ Pairs (i + 1) (λ x y. Met r (getD l x 0) (getD l y 0))
+    old e = subst (λ (z : Meeting). (z ≡ Clear) ⊎ Pairs (i + 1) (λ x y. Met z (getD l x 0) (getD l y 0))) (sym e) (⊎-map (λ z. z) (wider w) (f .found))
 
-    new : r ≡ m → (r ≡ Apart) ⊎ Pairs (i + 1) (λ x y. Met r (getD l x 0) (getD l y 0))
-    new e = subst (λ (z : Meeting). (z ≡ Apart) ⊎ Pairs (i + 1) (λ x y. Met z (getD l x 0) (getD l y 0))) (sym e) (⊎-map (λ z. z) (λ p. (i, omega arith, p)) (a .found))
+    new : r ≡ m → (r ≡ Clear) ⊎ Pairs (i + 1) (λ x y. Met r (getD l x 0) (getD l y 0))
+    new e = subst (λ (z : Meeting). (z ≡ Clear) ⊎ Pairs (i + 1) (λ x y. Met z (getD l x 0) (getD l y 0))) (sym e) (⊎-map (λ z. z) (λ p. (i, omega arith, p)) (a .found))
 
     go : (x y : ℕ) → x < y → y < i + 1 → Dec (y ≡ i) → NoWorse r (getD l x 0) (getD l y 0)
     go x y h k (yes e) = subst (λ (n : ℕ). NoWorse r (getD l x 0) (getD l n 0)) (sym e) (no-worse-up (b .second) (a .none-worse x (omega arith) (omega arith)))

@@ -1,4 +1,2 @@
--- Lines as numbers, and the worst meeting of two of them. All of it serves contracts between inner functions.
-pub mod Line
-pub mod Meetings
-pub mod Arranged
+-- The search for lines that meet serves the check alone, whose contract does not cite it.
+pub mod inner

@@ -11,8 +11,8 @@ use segment::most;
 ghost use mathlib.Core.Path.{_≡_};
 ghost use Prim.Native.Nat.{_+_, _≤_, _<_};
 ghost use lib.ListN.{length};
-ghost use Rattle.sweep.specs.Line.{startOf, endOf};
-ghost use Rattle.sweep.specs.Arranged.{view, Joined, Arranged, Aligned};
+ghost use Rattle.sweep.specs.inner.Line.{startOf, endOf};
+ghost use Rattle.sweep.specs.inner.Arranged.{view, Joined, Arranged, Aligned};
 
 // The line between p and q, from the one with the lesser number.
 fn join(p: Point, q: Point) -> u64

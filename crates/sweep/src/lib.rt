@@ -19,9 +19,9 @@ ghost use mathlib.Core.Logic.{_↔_};
 ghost use Prim.Native.Nat.{_≤_, _<_};
 ghost use lib.Dec.{T};
 ghost use lib.ListN.{length, getD};
-ghost use Rattle.sort.specs.Order.{Pairs, Ascending};
-ghost use Rattle.sweep.specs.Line.{last, Onward};
-ghost use Rattle.sweep.specs.Meetings.{WorstFrom, Worst};
+ghost use Rattle.sort.specs.inner.Order.{Pairs, Ascending};
+ghost use Rattle.sweep.specs.inner.Line.{last, Onward};
+ghost use Rattle.sweep.specs.inner.Meetings.{WorstFrom, Worst};
 
 // The worst meeting of line i with a line before it. Lines are sorted by their ends: where one ends at the start of line i or before, so do all before that.
 fn worst_before(lines: &[u64], i: usize) -> Meeting
@@ -35,7 +35,7 @@ fn worst_before(lines: &[u64], i: usize) -> Meeting
     let q = end(k);
     let low = least(p.column, q.column);
     let high = most(p.column, q.column);
-    let mut worst = Meeting::Apart;
+    let mut worst = Meeting::Clear;
     let mut j = i;
     while 0 < j {
         let before = lines[j - 1];
@@ -54,7 +54,7 @@ fn worst_of(lines: &[u64]) -> Meeting
     requires { ⌜ Ascending last (length (now lines)) (now lines) ⌝ }
     ensures { λ m. ⌜ Worst (length (now (lines .entry))) (now (lines .entry)) m ⌝ }
 {
-    let mut worst = Meeting::Apart;
+    let mut worst = Meeting::Clear;
     let mut i = 0;
     while i < lines.len() {
         worst = worse(worst, worst_before(lines, i));

@@ -7,11 +7,11 @@ ghost use mathlib.Core.Path.{_≡_};
 ghost use mathlib.Core.Bool.{true};
 ghost use mathlib.Core.Logic.{_⊎_};
 ghost use Prim.Native.Nat.{min, max, _<_};
-ghost use Rattle.sweep.specs.Meetings.{Meets, grade, Worse};
+ghost use Rattle.sweep.specs.inner.Meetings.{Meets, grade, Worse};
 
 // Two lines share no point but one that both end at; or they share another.
 pub enum Meeting {
-    Apart,
+    Clear,
     Clashing,
 }
 
@@ -22,7 +22,7 @@ pub fn compare(p: Point, q: Point, r: Point, s: Point) -> Meeting
     if clash(p, q, r, s) {
         return Meeting::Clashing;
     }
-    Meeting::Apart
+    Meeting::Clear
 }
 
 // The worse of two meetings.
@@ -30,7 +30,7 @@ pub fn worse(a: Meeting, b: Meeting) -> Meeting
     ensures { λ r. ⌜ Worse a b r ⌝ }
 {
     match a {
-        Meeting::Apart => b,
+        Meeting::Clear => b,
         Meeting::Clashing => a,
     }
 }
@@ -40,7 +40,7 @@ pub fn utmost(m: Meeting) -> bool
     ensures { λ r. ⌜ (r ≡ true → grade m ≡ 1) ⌝ }
 {
     match m {
-        Meeting::Apart => false,
+        Meeting::Clear => false,
         Meeting::Clashing => true,
     }
 }
@@ -61,7 +61,7 @@ pub fn against(p: Point, q: Point, low: u16, high: u16, r: Point, s: Point) -> M
     ensures { λ m. ⌜ Meets m r s p q ⌝ }
 {
     if beside(low, high, r.column, s.column) {
-        return Meeting::Apart;
+        return Meeting::Clear;
     }
     compare(r, s, p, q)
 }

@@ -9,11 +9,11 @@ use lib.Dec.{T, eqb, ltb, eqb→eq, eqb·suc-zero}
 use borrow.Author.Tests.{ltb-false, le-ltb}
 use lib.ListN.{length}
 use Rattle.table.specs.Lists.{any, member, count}
-use Rattle.table.specs.Table.{Side, left, right, records, nextOf, leftOf, rightOf, linkOf, rootOf, follow, chain}
+use Rattle.table.specs.Table.{Side, left, right, records, nextOf, leftOf, rightOf, linkOf, rootOf, follow, chain, Chained}
 use Rattle.table.specs.Tree.{none, node, size, nodes, descend, treeAt, tree}
 use Rattle.table.specs.Refusal.{badLength, badHead, badChain, badLinks, isEmpty, links, named, badTree, shortPlacements, fault, refusal}
 use Rattle.table.proofs.Lists.{passes, or-false, any-false, member-count, Distinct, repeats-count, within, length-within}
-use Rattle.table.proofs.Chain.{Chained, follow-none, descend-none, follow-more, descend-more, length-nodes, size-link, reached, namer, names, names-once}
+use Rattle.table.proofs.Chain.{follow-none, descend-none, follow-more, descend-more, length-nodes, size-link, reached, namer, names, names-once}
 use Rattle.table.proofs.Causes.{length-bounds, sound-distinct, sound-within, sound-length, sound-links, sound-once, Parented, named-within, nodes-within, size-within}
 
 no-cause : (b : Bool) (n m : ℕ) → cond b (suc n) m ≡ 0 → (b ≡ false) × (m ≡ 0)
@@ -92,12 +92,12 @@ module _ (t : List ℕ) (ok : fault t ≡ 0) where
   pub links-chained : (k : ℕ) (s : Side) → Chained t k → (linkOf t s k ≡ 0) ⊎ Chained t (linkOf t s k)
   links-chained = sound-links t (fault-none .3)
 
-  abbrev Rooted : Type 0
-  Rooted = (not (member (rootOf t) (chain t)) ≡ false) × (not (eqb (named t (rootOf t)) 0) ≡ false) × (any (uneven t) (chain t) ≡ false) × (any (lost t) (chain t) ≡ false)
+  abbrev OneTree : Type 0
+  OneTree = (not (member (rootOf t) (chain t)) ≡ false) × (not (eqb (named t (rootOf t)) 0) ≡ false) × (any (uneven t) (chain t) ≡ false) × (any (lost t) (chain t) ≡ false)
 
-  rooted : Empty t ⊎ Rooted
+  one-tree : Empty t ⊎ OneTree
   unfolding badTree
-  rooted = ⊎-map empty (λ (r : Rooted). r) (tests (isEmpty t) (not (member (rootOf t) (chain t))) (not (eqb (named t (rootOf t)) 0)) (any (uneven t) (chain t)) (any (lost t) (chain t)) (fault-none .4))
+  one-tree = ⊎-map empty (λ (r : OneTree). r) (tests (isEmpty t) (not (member (rootOf t) (chain t))) (not (eqb (named t (rootOf t)) 0)) (any (uneven t) (chain t)) (any (lost t) (chain t)) (fault-none .4))
     where
       empty : T (isEmpty t) → Empty t
       empty h =
@@ -105,16 +105,16 @@ module _ (t : List ℕ) (ok : fault t ≡ 0) where
           (unfold chain in rw (eqb→eq (nextOf t 0) 0 (e .0)) (follow-none (records t) t), eqb→eq (rootOf t) 0 (e .1))
 
   pub root : Empty t ⊎ Chained t (rootOf t)
-  root = ⊎-map (λ (e : Empty t). e) (λ (r : Rooted). passes (member (rootOf t) (chain t)) (r .0)) rooted
+  root = ⊎-map (λ (e : Empty t). e) (λ (r : OneTree). passes (member (rootOf t) (chain t)) (r .0)) one-tree
 
-  some : (k : ℕ) → Chained t k → Rooted
-  some k h = ⊎-elim (λ (e : Empty t). absurd (unfold member in rw (e .0) at h)) (λ (r : Rooted). r) rooted
+  some : (k : ℕ) → Chained t k → OneTree
+  some k h = ⊎-elim (λ (e : Empty t). absurd (unfold member in rw (e .0) at h)) (λ (r : OneTree). r) one-tree
 
   pub parented : Parented t
   parented = record {
     linked = fault-none .3;
     root = ⊎-map (λ (e : Empty t). e .1) (λ (m : Chained t (rootOf t)). m) root;
-    unnamed = ⊎-elim (λ (e : Empty t). unfold links count in rw (e .0) refl) (λ (r : Rooted). eqb→eq (named t (rootOf t)) 0 (passes (eqb (named t (rootOf t)) 0) (r .1))) rooted;
+    unnamed = ⊎-elim (λ (e : Empty t). unfold links count in rw (e .0) refl) (λ (r : OneTree). eqb→eq (named t (rootOf t)) 0 (passes (eqb (named t (rootOf t)) 0) (r .1))) one-tree;
     once = λ k h. sound-once t (some k h .2) k h;
   }
 

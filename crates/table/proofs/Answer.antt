@@ -9,8 +9,8 @@ use borrow.Author.Tests.{ne-eqb, lt-ltb, le-ltb}
 use Rattle.table.specs.declared.Reading.{Reading}
 use Rattle.table.specs.Table.{records, chain}
 use Rattle.table.specs.Refusal.{badLength, badHead, badChain, badLinks, badTree, shortPlacements, fault, refusal}
-use Rattle.table.specs.Reading.{TracedOf, ReadOf}
-use Rattle.table.specs.Steps.{Shaped, Listed, Ordered, Filled}
+use Rattle.table.specs.inner.Reading.{TracedOf, ReadOf}
+use Rattle.table.specs.inner.Steps.{Shaped, Listed, Ordered, Filled}
 use Rattle.table.proofs.Form.{form}
 
 refused : (t : List ℕ) (places : ℕ) (r : Reading) (list order : List ℕ) → fault t ≡ r .refusal → (r .refusal ≡ 0 → ⊥) → TracedOf t places r list order

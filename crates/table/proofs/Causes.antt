@@ -9,11 +9,11 @@ use lib.Dec.{T, eqb, ltb, eqb→eq}
 use lib.ListN.{length}
 use borrow.Author.Tests.{ltb-false, leb-false, eqb-false}
 use Rattle.table.specs.Lists.{any, member, repeats, count}
-use Rattle.table.specs.Table.{Side, left, right, records, nextOf, leftOf, rightOf, linkOf, rootOf, chain}
+use Rattle.table.specs.Table.{Side, left, right, records, nextOf, leftOf, rightOf, linkOf, rootOf, chain, Chained}
 use Rattle.table.specs.Tree.{size, nodes, descend, tree}
 use Rattle.table.specs.Refusal.{badLength, beyond, badChain, stray, badLinks, links, named}
 use Rattle.table.proofs.Lists.{passes, or-false, any-false, same, Alike, alike, member-count, Distinct, Within, length-within, length-between, links-within}
-use Rattle.table.proofs.Chain.{Chained, follow-zero, nodes-zero, descend-more, length-nodes, nodes-deeper, namer}
+use Rattle.table.proofs.Chain.{follow-zero, nodes-zero, descend-more, length-nodes, nodes-deeper, namer}
 
 -- What is false where a does not pass.
 pub unless : (a b : Bool) → not a && b ≡ false → T a ⊎ (b ≡ false)

@@ -8,14 +8,10 @@ use native.Mathlib.Omega.{arith}
 use lib.Dec.{T, eqb·zero-suc, eqb·suc-zero}
 use lib.ListN.{length, length-append}
 use Rattle.table.specs.Lists.{member, count}
-use Rattle.table.specs.Table.{Side, left, right, nextOf, leftOf, rightOf, linkOf, follow, chain}
+use Rattle.table.specs.Table.{Side, left, right, nextOf, leftOf, rightOf, linkOf, follow, chain, Chained}
 use Rattle.table.specs.Tree.{Tree, none, node, size, nodes, descend}
 use Rattle.table.specs.Refusal.{links}
 use Rattle.table.proofs.Lists.{or-T, member-cons, member-append, same, same-one, Alike, alike, count-append, member-count, within-cons, within-one, links-within}
-
--- k is on the chain.
-abbrev pub Chained : List ℕ → ℕ → Type 0
-Chained t k = T (member k (chain t))
 
 -- Zero is none, and on no list.
 pub follow-none : (n : ℕ) (t : List ℕ) → follow n t 0 ≡ []

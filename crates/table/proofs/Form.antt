@@ -8,7 +8,7 @@ use borrow.Author.Tests.{eq-eqb, ne-eqb, le-ltb}
 use lib.ListN.{length}
 use Rattle.table.specs.Table.{rightOf, tagOf}
 use Rattle.table.specs.Refusal.{badLength, badHead}
-use Rattle.table.specs.Steps.{Shaped}
+use Rattle.table.specs.inner.Steps.{Shaped}
 use Rattle.table.proofs.Causes.{length-bounds}
 
 -- Causes 1 and 2, in this order.

@@ -13,7 +13,7 @@ use borrow.Author.Tests.{ne-eqb}
 use Rattle.table.specs.Lists.{member, count}
 use Rattle.table.specs.Table.{records, leftOf, rightOf, rootOf, chain}
 use Rattle.table.specs.Refusal.{links}
-use Rattle.table.specs.Steps.{Rooted, Queue, present, notOnce}
+use Rattle.table.specs.inner.Steps.{Rooted, Queue, present, notOnce}
 use Rattle.table.proofs.Lists.{same, count-append, member-count, Within, length-within, links-within}
 use Rattle.table.proofs.Chain.{links-append}
 use Rattle.table.proofs.Causes.{Parented, sound-within, sound-length, sound-once, named-within}

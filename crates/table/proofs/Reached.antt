@@ -14,7 +14,7 @@ use Rattle.table.specs.Lists.{member, count}
 use Rattle.table.specs.Table.{Side, records, linkOf, rootOf, chain}
 use Rattle.table.specs.Tree.{nodes, tree}
 use Rattle.table.specs.Refusal.{links}
-use Rattle.table.specs.Steps.{Rooted, Queue, Ordered, Filled, present, notReached}
+use Rattle.table.specs.inner.Steps.{Rooted, Queue, Ordered, Filled, present, notReached}
 use Rattle.table.proofs.Lists.{T-true, passes, or-T, any-false, same, same-one, member-append, member-cons, member-count, within, length-within, within-back}
 use Rattle.table.proofs.Chain.{links-append, names, namer, reached}
 use Rattle.table.proofs.Causes.{sound-distinct, sound-within, sound-length, nodes-rooted}

@@ -11,7 +11,7 @@ use borrow.Author.Tests.{eq-eqb, ne-eqb, eqb-true, eqb-false, not-false}
 use Rattle.table.specs.Lists.{member}
 use Rattle.table.specs.Table.{records, nextOf, rootOf, follow, chain}
 use Rattle.table.specs.Refusal.{badChain, badLinks, isEmpty, named, badTree, fault}
-use Rattle.table.specs.Steps.{Shaped, Listed, Marked, Rooted, Ordered, Filled, Grown, notOnce, notReached}
+use Rattle.table.specs.inner.Steps.{Shaped, Listed, Marked, Rooted, Ordered, Filled, Grown, notOnce, notReached}
 use Rattle.table.proofs.Lists.{T-true, T-false, or-false}
 use Rattle.table.proofs.Chain.{follow-none}
 use Rattle.table.proofs.Causes.{sound-within}

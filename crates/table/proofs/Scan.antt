@@ -12,7 +12,7 @@ use borrow.Author.Tests.{lt-leb}
 use Rattle.table.specs.Lists.{any, member}
 use Rattle.table.specs.Table.{records, chain}
 use Rattle.table.specs.Refusal.{beyond, stray}
-use Rattle.table.specs.Steps.{Listed, Marked}
+use Rattle.table.specs.inner.Steps.{Listed, Marked}
 use Rattle.table.proofs.Lists.{T-true, member-cons, any-false}
 use Rattle.table.proofs.Causes.{sound-within}
 

@@ -13,7 +13,7 @@ use borrow.Author.Tests.{ltb-true, ltb-false}
 use Rattle.table.specs.Lists.{count}
 use Rattle.table.specs.Table.{leftOf, rightOf, chain}
 use Rattle.table.specs.Refusal.{links}
-use Rattle.table.specs.Steps.{Blank, Tallied}
+use Rattle.table.specs.inner.Steps.{Blank, Tallied}
 use Rattle.table.proofs.Lists.{same, same-one, Alike, alike, count-append}
 use Rattle.table.proofs.Chain.{links-append}
 

@@ -14,7 +14,7 @@ use borrow.Author.Tests.{eq-eqb, ne-eqb, lt-leb}
 use Rattle.table.specs.Lists.{any, member, repeats, count}
 use Rattle.table.specs.Table.{records, nextOf, follow, chain}
 use Rattle.table.specs.Refusal.{beyond, badChain, links}
-use Rattle.table.specs.Steps.{Shaped, Blank, Walked}
+use Rattle.table.specs.inner.Steps.{Shaped, Blank, Walked}
 use Rattle.table.proofs.Lists.{or-T, or-false as or-false², any-false, member-append, member-count, member-none, same, same-one, alike, Alike, count-append, Distinct, repeats-count, length-between}
 use Rattle.table.proofs.Chain.{follow-none}
 use Rattle.table.proofs.Tally.{Counts, counted-all}

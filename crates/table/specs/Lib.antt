@@ -1,8 +1,6 @@
--- What a table says (document 01, "The rack table"): words and records, the chain, the tree, the refusals; then what a reading of it promises. Read in this order.
--- Steps is for the functions within a reading and may be passed over.
+-- What a table says (document 01, "The rack table"): words and records, the chain, the tree, the refusals. Read in this order.
 pub mod Lists
 pub mod Table
 pub mod Tree
 pub mod Refusal
-pub mod Reading
-pub mod Steps
+pub mod inner

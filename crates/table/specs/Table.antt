@@ -1,7 +1,9 @@
 -- Words, records and the chain of a table of bytes (document 01, "The rack table").
 use mathlib.Core.List.{List, [], _∷_}
 use Prim.Native.Nat.{ℕ, zero, suc, _+_, _*_, _/_}
+use lib.Dec.{T}
 use lib.ListN.{length, getD}
+use Rattle.table.specs.Lists.{member}
 
 -- "A table is bytes, in records of 8": how many records, the head counted
 abbrev pub records : List ℕ → ℕ
@@ -46,3 +48,7 @@ follow (suc n) t (suc k) = suc k ∷ follow n t (nextOf t (suc k))
 -- goes beyond the table or meets one twice, and is refused with 3.
 unfoldable pub chain : List ℕ → List ℕ
 chain t = follow (records t) t (nextOf t 0)
+
+-- "over chained boxes": k is a record of the chain
+abbrev pub Chained : List ℕ → ℕ → Type 0
+Chained t k = T (member k (chain t))

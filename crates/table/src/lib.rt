@@ -18,8 +18,8 @@ ghost use mathlib.Core.Path.{_≡_};
 ghost use mathlib.Core.Bool.{cond, false};
 ghost use lib.ListN.{length};
 ghost use Rattle.table.specs.Refusal.{badLength, badHead, badLinks, refusal};
-ghost use Rattle.table.specs.Reading.{TracedOf, ReadOf};
-ghost use Rattle.table.specs.Steps.{Blank, Listed, Marked, Tallied, Grown};
+ghost use Rattle.table.specs.inner.Reading.{TracedOf, ReadOf};
+ghost use Rattle.table.specs.inner.Steps.{Blank, Listed, Marked, Tallied, Grown};
 
 // A refusal, or 0 and the number of nodes.
 pub struct Reading {

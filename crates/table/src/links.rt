@@ -6,7 +6,7 @@ ghost use mathlib.Core.Bool.{not};
 ghost use lib.Dec.{eqb};
 ghost use lib.ListN.{getD};
 ghost use Rattle.table.specs.Refusal.{badLinks};
-ghost use Rattle.table.specs.Steps.{Listed, Marked};
+ghost use Rattle.table.specs.inner.Steps.{Listed, Marked};
 
 // Whether record k is marked: no mark stands past the last.
 pub fn marked(mark: &[u16], k: usize) -> bool

@@ -6,7 +6,7 @@ ghost use lib.Dec.{eqb};
 ghost use lib.ListN.{length, getD, set};
 ghost use Rattle.table.specs.Table.{rootOf};
 ghost use Rattle.table.specs.Refusal.{named};
-ghost use Rattle.table.specs.Steps.{Listed, Tallied, notOnce};
+ghost use Rattle.table.specs.inner.Steps.{Listed, Tallied, notOnce};
 
 // One more link to record k, if the tally has room for it.
 pub fn tick(tally: &mut [u16], k: usize)

@@ -8,7 +8,7 @@ ghost use Prim.Native.Nat.{_+_, _≤_, _<_};
 ghost use lib.ListN.{length, take};
 ghost use Rattle.table.specs.Table.{chain as chainOf};
 ghost use Rattle.table.specs.Refusal.{fault};
-ghost use Rattle.table.specs.Steps.{Rooted, Queue, Ordered, Filled, present, notReached};
+ghost use Rattle.table.specs.inner.Steps.{Rooted, Queue, Ordered, Filled, present, notReached};
 
 // Puts a link that is not zero at the end of the order.
 fn push(order: &mut [u16], tail: usize, link: usize) -> usize

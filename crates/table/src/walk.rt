@@ -7,7 +7,7 @@ use crate::words::next;
 use crate::words::right;
 ghost use mathlib.Core.Path.{_≡_};
 ghost use lib.ListN.{length};
-ghost use Rattle.table.specs.Steps.{Shaped, Blank, Walked};
+ghost use Rattle.table.specs.inner.Steps.{Shaped, Blank, Walked};
 
 // Lists the records of the chain, counts how often each is named by one of them, and marks them and zero, so that a link to a record that
 // is not marked is stray.

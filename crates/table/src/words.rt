@@ -4,7 +4,7 @@ ghost use Prim.Native.Nat.{_<_};
 ghost use Rattle.table.specs.Table.{records, word as wordOf, nextOf, leftOf, rightOf, tagOf};
 
 // A byte, as the numbers that indices are.
-fn wide(byte: u8) -> usize
+fn from_byte(byte: u8) -> usize
     ensures { λ r. ⌜ (r ≡ byte) × (r < 256) ⌝ }
 {
     byte as usize
@@ -16,7 +16,7 @@ fn word(table: &[u8], k: usize, j: usize) -> usize
     ensures { λ r. ⌜ (r ≡ wordOf (now (table .entry)) k j) × (r < 65536) ⌝ }
 {
     let at = 8 * k + 2 * j;
-    wide(table[at]) + 256 * wide(table[at + 1])
+    from_byte(table[at]) + 256 * from_byte(table[at + 1])
 }
 
 pub fn next(table: &[u8], k: usize) -> usize

@@ -8,7 +8,7 @@ use native.Mathlib.Omega.{arith}
 use lib.ListN.{length, getD, set, take, length-append}
 use lib.Seq.{sets, length-sets, take-suc, take-all}
 use Rattle.text.specs.Text.{decimal}
-use Rattle.text.specs.Put.{Put}
+use Rattle.text.specs.inner.Put.{Put}
 use Rattle.text.proofs.Decimal.{decimal-one, decimal-more}
 
 sets-append : (xs ys l : List ℕ) (i : ℕ) → sets l i (xs ++ ys) ≡ sets (sets l i xs) (i + length xs) ys

@@ -1,3 +1,3 @@
 -- What the program prints (document 01, "Sheets worked by hand").
 pub mod Text
-pub mod Put
+pub mod inner

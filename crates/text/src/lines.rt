@@ -13,7 +13,7 @@ ghost use lib.ListN.{length};
 ghost use Rattle.table.specs.Table.{records, chain};
 ghost use Rattle.table.specs.Refusal.{refusal as refusalOf};
 ghost use Rattle.text.specs.Text.{planLine, nodeLine, nodeLines, refusedLine};
-ghost use Rattle.text.specs.Put.{Put};
+ghost use Rattle.text.specs.inner.Put.{Put};
 
 // A refusal's line, at the start of out.
 pub fn put_refusal(refusal: u16, out: &mut [u8]) -> usize

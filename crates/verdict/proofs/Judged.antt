@@ -7,15 +7,15 @@ use native.Mathlib.Omega.{arith}
 use lib.ListN.{getD}
 use Rattle.segment.specs.Segment.{Clash}
 use Rattle.segment.proofs.Clashing.{clash-exchange}
-use Rattle.sort.specs.Order.{Rearranged, Below, Pairs}
+use Rattle.sort.specs.inner.Order.{Rearranged, Below, Pairs}
 use Rattle.sort.proofs.Rearranging.{any-one, any-two}
 use Rattle.sweep.specs.declared.meeting.Meeting.{Meeting}
-use Rattle.sweep.specs.declared.meeting.Meeting.the-variants.{Apart, Clashing}
-use Rattle.sweep.specs.Line.{startOf, endOf, last}
-use Rattle.sweep.specs.Meetings.{Met, grade, Worst}
+use Rattle.sweep.specs.declared.meeting.Meeting.the-variants.{Clear, Clashing}
+use Rattle.sweep.specs.inner.Line.{startOf, endOf, last}
+use Rattle.sweep.specs.inner.Meetings.{Met, grade, Worst}
 use Rattle.verdict.specs.Conditions.{SamePoint, NotLower, OutOfOrder}
 use Rattle.verdict.specs.Verdict.{numbered, FirstOf, conditions}
-use Rattle.verdict.specs.Steps.{Nodes, Listed, Rises, lineConditions}
+use Rattle.verdict.specs.inner.Steps.{Nodes, LinesOf, Rises, lineConditions}
 use Rattle.verdict.proofs.Places.{same-ends, rising, clashing}
 
 -- ---- the conditions of lines
@@ -50,19 +50,19 @@ module _ {n m : ℕ} {a b : List ℕ} (r : Rearranged n a b) (e : m ≡ n) where
 some-clash : {n : ℕ} {l : List ℕ} {m : Meeting} → m ≡ Clashing → Worst n l m → Touch n l
 some-clash {n} {l} {m} e w = ⊎-elim (λ z. let y : _≡_ {A = ℕ} 0 1 = cc in absurd (omega arith)) (λ z. subst (λ (k : Meeting). Pairs n (λ i j. Met k (getD l i 0) (getD l j 0))) e z) (w .found)
 
-no-clash : {n : ℕ} {l : List ℕ} {m : Meeting} → m ≡ Apart → Worst n l m → Touch n l → ⊥
+no-clash : {n : ℕ} {l : List ℕ} {m : Meeting} → m ≡ Clear → Worst n l m → Touch n l → ⊥
 no-clash {m = m} e w (j, h, (i, k, c)) = let g : grade m ≡ 0 = ap grade e in omega (arith, w .none-worse i j k h .no-worse Clashing c)
 
 -- The answers of the searches, together.
 pub clash-first : {n : ℕ} {l : List ℕ} {m : Meeting} → (Same n l → ⊥) → (Rising n l → ⊥) → m ≡ Clashing → Worst n l m → FirstOf (lineConditions n l) 23
 clash-first s r e w = inr (s, inr (r, inl (some-clash e w, refl)))
 
-pub none-first : {n : ℕ} {l : List ℕ} {m : Meeting} → (Same n l → ⊥) → (Rising n l → ⊥) → m ≡ Apart → Worst n l m → FirstOf (lineConditions n l) 0
+pub none-first : {n : ℕ} {l : List ℕ} {m : Meeting} → (Same n l → ⊥) → (Rising n l → ⊥) → m ≡ Clear → Worst n l m → FirstOf (lineConditions n l) 0
 none-first s r e w = inr (s, inr (r, inr (no-clash e w, refl)))
 
 -- ---- the first of the lines is the first of the table
 
-module _ {t p nodes ls : List ℕ} {n : ℕ} (l : Nodes t n nodes) (x : Listed t p n nodes ls) where
+module _ {t p nodes ls : List ℕ} {n : ℕ} (l : Nodes t n nodes) (x : LinesOf t p n nodes ls) where
   apart : (Same n ls → ⊥) → SamePoint t p → ⊥
   apart s y = s (same-ends p l x .1 y)
 

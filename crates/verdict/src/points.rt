@@ -6,7 +6,7 @@ ghost use lib.ListN.{length};
 ghost use Rattle.verdict.specs.Lines.{pointOf};
 
 // A record's number, as the numbers that indices are.
-pub fn wide(k: u16) -> usize
+pub fn index(k: u16) -> usize
     ensures { λ r. ⌜ r ≡ k ⌝ }
 {
     k as usize

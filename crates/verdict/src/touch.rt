@@ -10,9 +10,9 @@ ghost use mathlib.Core.Logic.{_↔_};
 ghost use Prim.Native.Nat.{_≤_};
 ghost use lib.Dec.{T};
 ghost use lib.ListN.{length, getD};
-ghost use Rattle.sort.specs.Order.{Below};
+ghost use Rattle.sort.specs.inner.Order.{Below};
 ghost use Rattle.verdict.specs.Verdict.{FirstOf};
-ghost use Rattle.verdict.specs.Steps.{Rises, lineConditions};
+ghost use Rattle.verdict.specs.inner.Steps.{Rises, lineConditions};
 
 // Does a line between two points not go down?
 fn rises_at(k: u64) -> bool
@@ -54,7 +54,7 @@ fn judge_lines(lines: &mut [u64], scratch: &mut [u64]) -> u16
     }
     let worst = worst_meeting(lines, scratch);
     match worst {
-        Meeting::Apart => 0,
+        Meeting::Clear => 0,
         Meeting::Clashing => 23,
     }
 }

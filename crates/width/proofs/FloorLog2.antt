@@ -11,16 +11,16 @@ use borrow.Author.Tests.{leb-true, leb-false, ne-eqb, le-ltb}
 use Rattle.width.specs.Allowed.{greatest, floorLog2, allowedWidth}
 
 -- k is floor(log2 n): 2 to the power k is at most n, and 2 to the power k + 1 is not.
-pub record Between (n k : ℕ) : Type 0 where
+pub record IsFloor (n k : ℕ) : Type 0 where
   pub low : 2 ^ k ≤ n
   pub high : n < 2 ^ suc k
 
-greatest-between : (n m : ℕ) → 1 ≤ n → n < 2 ^ suc m → Between n (greatest n m)
+greatest-between : (n m : ℕ) → 1 ≤ n → n < 2 ^ suc m → IsFloor n (greatest n m)
 unfolding greatest
 greatest-between n zero one h = record { low = one; high = h }
 greatest-between n (suc m) one h = go (leb (2 ^ suc m) n) refl (greatest-between n m one)
   where
-    go : (b : Bool) → leb (2 ^ suc m) n ≡ b → (n < 2 ^ suc m → Between n (greatest n m)) → Between n (elim b [ true ↦ suc m | false ↦ greatest n m ])
+    go : (b : Bool) → leb (2 ^ suc m) n ≡ b → (n < 2 ^ suc m → IsFloor n (greatest n m)) → IsFloor n (elim b [ true ↦ suc m | false ↦ greatest n m ])
     go true e below = record { low = leb-true _ _ e; high = h }
     go false e below = below (leb-false _ _ e)
 
@@ -29,19 +29,19 @@ pub below-power : (n : ℕ) → n < 2 ^ n
 below-power zero = pow-pos zero
 below-power (suc n) = omega (arith, below-power n, two-pow-succ n)
 
-pub floor-bounds : (n : ℕ) → 1 ≤ n → Between n (floorLog2 n)
+pub floor-bounds : (n : ℕ) → 1 ≤ n → IsFloor n (floorLog2 n)
 unfolding floorLog2
 floor-bounds n one = greatest-between n n one (omega (arith, below-power n, two-pow-succ n))
 
 -- Of two such numbers neither is above the other.
-not-above : {n j k : ℕ} → Between n j → Between n k → j ≤ k
+not-above : {n j k : ℕ} → IsFloor n j → IsFloor n k → j ≤ k
 not-above {n} {j} {k} a b = go (decLe j k)
   where
     go : Dec (j ≤ k) → j ≤ k
     go (yes h) = h
     go (no h) = absurd (let above : suc k ≤ j = omega arith in let p : 2 ^ suc k ≤ 2 ^ j = pow-mono above in omega (arith, a .low, b .high))
 
-pub floor-unique : {n k : ℕ} → 1 ≤ n → Between n k → k ≡ floorLog2 n
+pub floor-unique : {n k : ℕ} → 1 ≤ n → IsFloor n k → k ≡ floorLog2 n
 floor-unique {n} one b = le-antisymm (not-above b (floor-bounds n one)) (not-above (floor-bounds n one) b)
 
 -- The allowed width where it is not 0.

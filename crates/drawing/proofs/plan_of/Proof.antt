@@ -41,7 +41,7 @@ draw-tree-requires c κs =
         sound = s .pre .0;
         sized = s .pre .1 .1 .0;
         long-roles = measured .prepare .kept .1 .1 .0 ∙ s .pre .1 .1 .1 .0;
-        long-gaps = measured .prepare .kept .1 .1 .1 .0;
+        long-widest = measured .prepare .kept .1 .1 .1 .0;
         enough = s .pre .1 .1 .1 .1 .0;
       },
       hanging-root _ (s .pre .0) _ (first .left .ensures .0) _ _ (s .pre .1 .0) (measured .prepare .ensures .prepared),

@@ -4,7 +4,7 @@ use Prim.Native.Nat.{_-_, _≤_}
 use native.Mathlib.Omega.{arith}
 use borrow.Author.Needs.{needs}
 use lib.ListN.{length}
-use Rattle.plan.specs.Input.{countOf}
+use Rattle.plan.specs.inner.Input.{countOf}
 use Rattle.plan.proofs.read_all.Statement.{statement}
 use Rattle.plan.proofs.read_all.Tie as tie
 

@@ -1,7 +1,7 @@
 -- `worst_before`: from the line before it downwards. Rests on Grades.
 use native.Mathlib.Omega.{arith}
 use Prim.Native.Nat.{_≤_}
-use Rattle.sweep.specs.Meetings.{WorstFrom}
+use Rattle.sweep.specs.inner.Meetings.{WorstFrom}
 use Rattle.sweep.proofs.Grades.{from-none, from-more, from-ended, from-first, met-by}
 use borrow.Author.Needs.{needs}
 use Rattle.sweep.proofs.worst_before.Statement.{statement}

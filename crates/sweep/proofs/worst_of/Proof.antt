@@ -2,7 +2,7 @@
 use native.Mathlib.Omega.{arith}
 use Prim.Native.Nat.{_≤_, _-_}
 use lib.ListN.{length}
-use Rattle.sweep.specs.Meetings.{Worst}
+use Rattle.sweep.specs.inner.Meetings.{Worst}
 use Rattle.sweep.proofs.Grades.{worst-none, worst-more, worst-at, worst-utmost}
 use borrow.Author.Needs.{needs}
 use Rattle.sweep.proofs.worst_of.Statement.{statement}

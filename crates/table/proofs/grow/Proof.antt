@@ -5,7 +5,7 @@ use native.Mathlib.Omega.{arith}
 use borrow.Author.Tests.{not-true, not-false}
 use Rattle.table.specs.Lists.{member}
 use Rattle.table.specs.Table.{chain as chainOf}
-use Rattle.table.specs.Steps.{Rooted}
+use Rattle.table.specs.inner.Steps.{Rooted}
 use Rattle.table.proofs.Causes.{sound-within}
 use Rattle.table.proofs.Lists.{T-true}
 use Rattle.table.proofs.Rooting.{rootless, grown-bad, grown, marked-by, off-chain, ill-named, rooted}

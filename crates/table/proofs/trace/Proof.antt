@@ -3,7 +3,7 @@ use mathlib.Core.Path.{_≡_, sym, _∙_}
 use mathlib.Core.Bool.{false}
 use borrow.Author.Tests.{not-true, not-false}
 use Rattle.table.specs.Refusal.{badLinks}
-use Rattle.table.specs.Steps.{Shaped, Listed}
+use Rattle.table.specs.inner.Steps.{Shaped, Listed}
 use Rattle.table.proofs.Form.{shaped}
 use Rattle.table.proofs.Zeros.{blank}
 use Rattle.table.proofs.Answer.{refused-form, refused-chain, refused-links, refused-tree, refused-placements, traced}

@@ -1,6 +1,6 @@
 -- `draw_tree` meets its contract: the tree hangs from the edge at column 0.
 use borrow.Author.Needs.{needs}
-use Rattle.layout.specs.Held.{inwards}
+use Rattle.layout.specs.inner.Held.{inwards}
 use Rattle.drawing.proofs.place.draw_tree.Statement.{statement}
 use Rattle.drawing.proofs.place.draw_tree.Tie as tie
 

@@ -1,5 +1,5 @@
 -- Measuring meets its contracts. The measures: the size of the subtree, three times, and one more for each call on the way to its spine.
--- The loop's invariant is `Measuring` of Walks. Rests on Walks.
+-- The loop's invariant is `Measuring` of Surveys. Rests on Surveys.
 use mathlib.Core.Path.{ap, _∙_}
 use mathlib.Core.Logic.{inr}
 use Prim.Native.Nat.{ℕ, _+_, _*_, _<_}
@@ -8,10 +8,10 @@ use lib.ListN.{length-set}
 use borrow.Fn.Kinds.{In}
 use borrow.Fn.PlainCycle.{Measures, is, falls, and}
 use Rattle.table.specs.Tree.{size, treeAt}
-use Rattle.measure.specs.Forked.{sideOf}
+use Rattle.measure.specs.inner.Forked.{sideOf}
 use Rattle.measure.proofs.Forks.{named-within}
 use Rattle.measure.proofs.Spines.{chained}
-use Rattle.measure.proofs.Walks.{Measuring, start, measured-none, measured-small, role-small, size-inside, step, gap-small, measured}
+use Rattle.measure.proofs.Surveys.{Measuring, start, measured-none, measured-small, role-small, size-inside, step, widest-small, measured}
 use Rattle.measure.proofs.hung.measure_hung.Reads as hung
 use Rattle.measure.proofs.hung.measure_hung.Kinds as hung-kinds
 use Rattle.measure.proofs.hung.+measure_hung+measure_left+measure_right+measure_spine.Lts-measure_hung as hung-lts
@@ -28,8 +28,8 @@ use Rattle.measure.proofs.fork_at.Reads as fork-at
 use Rattle.measure.proofs.roles.choose_roles.Reads as choose-roles
 use Rattle.measure.proofs.roles.is_right.Reads as is-right
 use Rattle.measure.proofs.roles.role_at.Reads as role-at
-use Rattle.measure.proofs.walk.onward.Reads as onward
-use Rattle.measure.proofs.walk.width_of.Reads as width-of
+use Rattle.measure.proofs.survey.onward.Reads as onward
+use Rattle.measure.proofs.survey.width_of.Reads as width-of
 use Rattle.measure.proofs.hung.+measure_hung+measure_left+measure_right+measure_spine.{statement}
 use Rattle.measure.proofs.hung.+measure_hung+measure_left+measure_right+measure_spine.Tie.{close}
 
@@ -153,10 +153,10 @@ right-returns : (t : ℕ) → right-lts.Need-returns (right-calls t) (right-at t
 right-returns t c = c .before .before .before .before .measure-spine .ensures
 
 abbrev Inv-loop : spine-lts.InvT-loop
-Inv-loop table sizes roles₀ gaps₀ root mirrored walk₀ roles gaps walk = Measuring table (sideOf mirrored) root roles₀ gaps₀ roles gaps walk
+Inv-loop table sizes roles₀ widest₀ root mirrored walk₀ roles widest survey = Measuring table (sideOf mirrored) root roles₀ widest₀ roles widest survey
 
 abbrev μ-loop : spine-lts.MeasureT-loop
-μ-loop table sizes roles₀ gaps₀ root mirrored walk₀ roles gaps walk = size (treeAt table (walk .at))
+μ-loop table sizes roles₀ widest₀ root mirrored walk₀ roles widest survey = size (treeAt table (survey .at))
 
 -- The function's entry, from the loop's head.
 abbrev begun : (t : ℕ) → spine-lts.At-loop (spine-calls t) (spine-at t) spine.Post Inv-loop μ-loop → spine-lts.Start (spine-calls t) (spine-at t) spine.Post Inv-loop μ-loop
@@ -171,7 +171,7 @@ spine-loop-holds t c =
     let r = c .before .before .choose-roles in
     record {
       long-roles = r .kept .1 .1 .0 ∙ p .1 .1 .1 .0;
-      long-gaps = p .1 .1 .1 .1;
+      long-widest = p .1 .1 .1 .1;
       hand = _;
       role = _;
       walking = start _ (p .0) _ _ (inr (p .1 .0)) _ _ (p .1 .1 .1 .0) _ (r .ensures);
@@ -196,7 +196,7 @@ spine-measure-hung-requires t c κs =
     let l = c .before .before .before .before .before .before .before .before in
     let p = begun t l .pre in
     let d = c .before .before .before .before .before .fork-at .ensures in
-    (omega (arith, p .0, d .sizes, size-inside _ (p .1 .0) _ _ (l .loop .inv .walking)), (p .1 .0, (d .named-hung, (p .1 .1 .1 .0, (l .loop .inv .long-roles, l .loop .inv .long-gaps)))))
+    (omega (arith, p .0, d .sizes, size-inside _ (p .1 .0) _ _ (l .loop .inv .walking)), (p .1 .0, (d .named-hung, (p .1 .1 .1 .0, (l .loop .inv .long-roles, l .loop .inv .long-widest)))))
 
 spine-onward-requires : (t : ℕ) → spine-lts.Need-onward-requires (spine-calls t) (spine-at t) spine.Post Inv-loop μ-loop
 spine-onward-requires t c κs =
@@ -214,28 +214,28 @@ spine-loop-again t c =
     let l = m .before .before .before .before .before .before .before .before .before in
     step _ (begun t l .pre .1 .0) _ _ (l .loop .inv) (m .before .before .before .before .before .before .fork-at .ensures) _ (m .before .before .before .before .role-at .ensures) _ (m .before .is-right .ensures) _ _ _ (m .measure-hung .kept .1 .1 .0) (m .measure-hung .kept .1 .1 .1 .0) (m .measure-hung .ensures) _ (c .onward .ensures)
 
-spine-cast-gaps : (t : ℕ) → spine-lts.Need-cast-gaps (spine-calls t) (spine-at t) spine.Post Inv-loop μ-loop
-spine-cast-gaps t c =
+spine-cast-widest : (t : ℕ) → spine-lts.Need-cast-widest (spine-calls t) (spine-at t) spine.Post Inv-loop μ-loop
+spine-cast-widest t c =
     let l = c .before .before .before in
     let p = begun t l .pre .1 in
-    omega (arith, gap-small _ (p .0) _ _ (p .1 .0) (l .loop .inv .walking))
+    omega (arith, widest-small _ (p .0) _ _ (p .1 .0) (l .loop .inv .walking))
 
-spine-mul-gaps : (t : ℕ) → spine-lts.Need-mul-gaps (spine-calls t) (spine-at t) spine.Post Inv-loop μ-loop
-spine-mul-gaps t c =
+spine-mul-widest : (t : ℕ) → spine-lts.Need-mul-widest (spine-calls t) (spine-at t) spine.Post Inv-loop μ-loop
+spine-mul-widest t c =
     let p = begun t (c .before .before .before) .pre .1 in
     omega (arith, named-within _ (p .0) _ (inr (p .1 .0)))
 
-spine-slice-write-gaps : (t : ℕ) → spine-lts.Need-slice-write-gaps (spine-calls t) (spine-at t) spine.Post Inv-loop μ-loop
-spine-slice-write-gaps t c =
+spine-slice-write-widest : (t : ℕ) → spine-lts.Need-slice-write-widest (spine-calls t) (spine-at t) spine.Post Inv-loop μ-loop
+spine-slice-write-widest t c =
     let l = c .before .before .before in
     let p = begun t l .pre .1 in
-    omega (arith, named-within _ (p .0) _ (inr (p .1 .0)), l .loop .inv .long-gaps)
+    omega (arith, named-within _ (p .0) _ (inr (p .1 .0)), l .loop .inv .long-widest)
 
 spine-width-of-requires : (t : ℕ) → spine-lts.Need-width-of-requires (spine-calls t) (spine-at t) spine.Post Inv-loop μ-loop
 spine-width-of-requires t c κs =
     let l = c .before .before .before in
     let p = begun t l .pre .1 in
-    omega (arith, gap-small _ (p .0) _ _ (p .1 .0) (l .loop .inv .walking))
+    omega (arith, widest-small _ (p .0) _ _ (p .1 .0) (l .loop .inv .walking))
 
 spine-same-length : (t : ℕ) → spine-lts.Need-same-length (spine-calls t) (spine-at t) spine.Post Inv-loop μ-loop
 spine-same-length t c =
@@ -245,13 +245,13 @@ spine-same-length t c =
 spine-same-length-2 : (t : ℕ) → spine-lts.Need-same-length-2 (spine-calls t) (spine-at t) spine.Post Inv-loop μ-loop
 spine-same-length-2 t c =
     let l = c .before .before .before .before in
-    simp length-set (omega (arith, l .loop .inv .long-gaps, begun t l .pre .1 .1 .1 .1 .1))
+    simp length-set (omega (arith, l .loop .inv .long-widest, begun t l .pre .1 .1 .1 .1 .1))
 
 spine-returns : (t : ℕ) → spine-lts.Need-returns (spine-calls t) (spine-at t) spine.Post Inv-loop μ-loop
 spine-returns t c =
     let l = c .before .before .before .before in
     let p = begun t l .pre .1 in
-    measured _ (p .0) _ _ (p .1 .0) (l .loop .inv .walking) _ (l .before .before .before .choose-roles .ensures) (l .loop .inv .long-gaps) (c .before .before .if1 .left) _ (c .width-of .ensures)
+    measured _ (p .0) _ _ (p .1 .0) (l .loop .inv .walking) _ (l .before .before .before .choose-roles .ensures) (l .loop .inv .long-widest) (c .before .before .if1 .left) _ (c .width-of .ensures)
 
 pub +measure-hung+measure-left+measure-right+measure-spine-spec : {M : Type 1} → statement M
 +measure-hung+measure-left+measure-right+measure-spine-spec =
@@ -290,9 +290,9 @@ pub +measure-hung+measure-left+measure-right+measure-spine-spec : {M : Type 1} �
     (spine-onward-requires t)
     (spine-loop-less t)
     (spine-loop-again t)
-    (spine-cast-gaps t)
-    (spine-mul-gaps t)
-    (spine-slice-write-gaps t)
+    (spine-cast-widest t)
+    (spine-mul-widest t)
+    (spine-slice-write-widest t)
     (spine-width-of-requires t)
     (spine-same-length t)
     (spine-same-length-2 t)

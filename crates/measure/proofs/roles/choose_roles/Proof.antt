@@ -1,15 +1,15 @@
 -- `measure::roles::choose_roles` meets its contract. The loop's invariant: keeping the roles from here on gives what keeping all of them does.
--- The measure is the size of the subtree that the walk is at. Rests on Spines.
+-- The measure is the size of the subtree that the survey is at. Rests on Spines.
 use mathlib.Core.Path.{_≡_, sym, _∙_}
 use mathlib.Core.Logic.{inr}
 use native.Mathlib.Omega.{arith}
 use lib.ListN.{length, length-set}
 use Rattle.table.specs.Tree.{size, treeAt}
 use Rattle.layout.specs.Spine.{opposite, switch}
-use Rattle.layout.specs.Held.{spineOn}
-use Rattle.measure.specs.Sized.{Named}
-use Rattle.measure.specs.Forked.{sideOf}
-use Rattle.measure.specs.Roles.{handOf, roleOf, withRoles}
+use Rattle.layout.specs.inner.Held.{spineOn}
+use Rattle.measure.specs.inner.Sized.{Named}
+use Rattle.measure.specs.inner.Forked.{sideOf}
+use Rattle.measure.specs.inner.Roles.{handOf, roleOf, withRoles}
 use Rattle.measure.proofs.Forks.{named-within}
 use Rattle.measure.proofs.Spines.{chained, with-node, with-same, with-none}
 use Rattle.measure.proofs.roles.choose_roles.Statement.{statement}

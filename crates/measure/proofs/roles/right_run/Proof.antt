@@ -3,7 +3,7 @@ use mathlib.Core.Path.{refl, ap}
 use mathlib.Core.Logic.{inl, inr}
 use Rattle.table.specs.Table.{left, right}
 use Rattle.layout.specs.Spine.{opposite}
-use Rattle.measure.specs.Forked.{sideOf}
+use Rattle.measure.specs.inner.Forked.{sideOf}
 use Rattle.measure.proofs.Choices.{ordinary-runs, switch-runs}
 use Rattle.measure.proofs.roles.right_run.Statement.{statement}
 use Rattle.measure.proofs.roles.right_run.Tie as tie

@@ -2,7 +2,7 @@
 use mathlib.Core.Path.{sym, ap, _∙_}
 use borrow.Author.Needs.{needs}
 use Rattle.table.specs.Table.{left, right}
-use Rattle.measure.specs.Forked.{sideOf}
+use Rattle.measure.specs.inner.Forked.{sideOf}
 use Rattle.measure.proofs.Choices.{follows-switch, follows-run}
 use Rattle.measure.proofs.roles.role_after.Statement.{statement}
 use Rattle.measure.proofs.roles.role_after.Tie as tie

@@ -1,5 +1,5 @@
 -- `end`: the bits are the coordinates.
-use Rattle.sweep.specs.Line.{endOf}
+use Rattle.sweep.specs.inner.Line.{endOf}
 use borrow.Author.Needs.{needs}
 use Rattle.sweep.proofs.line.end.Statement.{statement}
 use Rattle.sweep.proofs.line.end.Tie as tie

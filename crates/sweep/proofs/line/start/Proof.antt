@@ -1,5 +1,5 @@
 -- `start`: the bits are the coordinates.
-use Rattle.sweep.specs.Line.{startOf}
+use Rattle.sweep.specs.inner.Line.{startOf}
 use borrow.Author.Needs.{needs}
 use Rattle.sweep.proofs.line.start.Statement.{statement}
 use Rattle.sweep.proofs.line.start.Tie as tie

@@ -1,7 +1,7 @@
 -- `utmost`: by the kinds.
 use mathlib.Core.Bool.{false≢true}
 use mathlib.Core.Path.{ap}
-use Rattle.sweep.specs.Meetings.{grade}
+use Rattle.sweep.specs.inner.Meetings.{grade}
 use borrow.Author.Needs.{needs}
 use Rattle.sweep.proofs.meeting.utmost.Statement.{statement}
 use Rattle.sweep.proofs.meeting.utmost.Tie as tie

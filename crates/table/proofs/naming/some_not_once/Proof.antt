@@ -9,7 +9,7 @@ use lib.Dec.{eqb}
 use lib.ListN.{getD}
 use Rattle.table.specs.Table.{rootOf}
 use Rattle.table.specs.Refusal.{named}
-use Rattle.table.specs.Steps.{Tallied, notOnce}
+use Rattle.table.specs.inner.Steps.{Tallied, notOnce}
 use Rattle.table.proofs.Scan.{listed-inside, scan-hit, scan-none}
 use Rattle.table.proofs.naming.some_not_once.Statement.{statement}
 use Rattle.table.proofs.naming.some_not_once.Tie as tie

@@ -2,7 +2,7 @@
 use Prim.Native.Nat.{_+_, _-_, _≤_}
 use native.Mathlib.Omega.{arith}
 use lib.ListN.{length, take}
-use Rattle.text.specs.Put.{Put}
+use Rattle.text.specs.inner.Put.{Put}
 use Rattle.text.proofs.Puts.{put-start, put-next, put-end, put-length}
 use Rattle.text.proofs.fields.put_word.Statement.{statement}
 use Rattle.text.proofs.fields.put_word.Tie as tie

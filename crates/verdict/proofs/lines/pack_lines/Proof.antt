@@ -2,7 +2,7 @@
 use native.Mathlib.Omega.{arith}
 use mathlib.Core.Path.{_≡_, refl, ap, _∙_}
 use lib.ListN.{length, length-set}
-use Rattle.verdict.specs.Steps.{above, Packed}
+use Rattle.verdict.specs.inner.Steps.{above, Packed}
 use Rattle.verdict.proofs.Parent.{packed-none, packed-more, packed-all}
 use Prim.Native.Nat.{_≤_, _-_}
 use borrow.Author.Needs.{needs}
@@ -18,23 +18,23 @@ abbrev μ-loop : tie.MeasureT-loop
 loop-holds : tie.Need-loop-holds Inv-loop μ-loop
 loop-holds c = (omega arith, refl, packed-none _ _ _ _)
 
-mul-wide : tie.Need-mul-wide Inv-loop μ-loop
-mul-wide c = search needs
+mul-index : tie.Need-mul-index Inv-loop μ-loop
+mul-index c = search needs
 
-shared-slice-read-wide : tie.Need-shared-slice-read-wide Inv-loop μ-loop
-shared-slice-read-wide c = search needs
+shared-slice-read-index : tie.Need-shared-slice-read-index Inv-loop μ-loop
+shared-slice-read-index c = search needs
 
-wide-requires : tie.Need-wide-requires Inv-loop μ-loop
-wide-requires c κs = search needs
+index-requires : tie.Need-index-requires Inv-loop μ-loop
+index-requires c κs = search needs
 
 above-requires : tie.Need-above-requires Inv-loop μ-loop
-above-requires c κs = omega (arith, c .wide .ensures, c .before .before .before .before .before .before .before .before .pre .0 .fits (c .before .before .before .loop .i) (c .before .before .loop-test .taken))
+above-requires c κs = omega (arith, c .index .ensures, c .before .before .before .before .before .before .before .before .pre .0 .fits (c .before .before .before .loop .i) (c .before .before .loop-test .taken))
 
 point-requires : tie.Need-point-requires Inv-loop μ-loop
-point-requires c κs = omega (arith, c .above .ensures ∙ ap (above (c .before .before .before .before .before .before .before .before .before .args .up .now)) (c .before .wide .ensures), c .before .before .before .before .before .before .before .before .before .pre .0 .placed-above (c .before .before .before .before .loop .i) (c .before .before .before .loop-test .taken))
+point-requires c κs = omega (arith, c .above .ensures ∙ ap (above (c .before .before .before .before .before .before .before .before .before .args .up .now)) (c .before .index .ensures), c .before .before .before .before .before .before .before .before .before .pre .0 .placed-above (c .before .before .before .before .loop .i) (c .before .before .before .loop-test .taken))
 
 point-requires-2 : tie.Need-point-requires-2 Inv-loop μ-loop
-point-requires-2 c κs = omega (arith, c .before .before .wide .ensures, c .before .before .before .before .before .before .before .before .before .before .pre .0 .placed (c .before .before .before .before .before .loop .i) (c .before .before .before .before .loop-test .taken))
+point-requires-2 c κs = omega (arith, c .before .before .index .ensures, c .before .before .before .before .before .before .before .before .before .before .pre .0 .placed (c .before .before .before .before .before .loop .i) (c .before .before .before .before .loop-test .taken))
 
 pack-requires : tie.Need-pack-requires Inv-loop μ-loop
 pack-requires c κs = search needs
@@ -52,7 +52,7 @@ loop-less : tie.Need-loop-less Inv-loop μ-loop
 loop-less c = search needs
 
 loop-again : tie.Need-loop-again Inv-loop μ-loop
-loop-again c = let l = c .before .before .before .before .before .before .before .loop in (omega arith, simp length-set (l .inv .1), packed-more (c .pack .result) (omega arith) (l .inv .2) (c .before .before .before .before .wide .ensures) (c .before .before .before .above .ensures) (c .before .before .point .ensures) (c .before .point2 .ensures) (c .pack .ensures))
+loop-again c = let l = c .before .before .before .before .before .before .before .loop in (omega arith, simp length-set (l .inv .1), packed-more (c .pack .result) (omega arith) (l .inv .2) (c .before .before .before .before .index .ensures) (c .before .before .before .above .ensures) (c .before .before .point .ensures) (c .before .point2 .ensures) (c .pack .ensures))
 
 same-length : tie.Need-same-length Inv-loop μ-loop
 same-length c = search needs
@@ -67,9 +67,9 @@ pack-lines-spec =
     Inv-loop
     μ-loop
     loop-holds
-    mul-wide
-    shared-slice-read-wide
-    wide-requires
+    mul-index
+    shared-slice-read-index
+    index-requires
     above-requires
     point-requires
     point-requires-2

@@ -15,13 +15,13 @@ module _ (t : ℕ) where
       let f = edge-knee _ _ _ _ _ _ _ (s .pre .1 .1 .1) (s .pre .1 .1 .0) in
       (entry-within _ _ _ _ _ (s .pre .1 .0) _ (s .pre .1 .1 .0 .named), (f .0, omega arith))
 
-  greater-requires : lts.Need-greater-requires (at-knee-claims t) (at-knee-at t) reads.Post
-  greater-requires c κs = tt
+  most-requires : lts.Need-most-requires (at-knee-claims t) (at-knee-at t) reads.Post
+  most-requires c κs = tt
 
   add-row : lts.Need-add-row (at-knee-claims t) (at-knee-at t) reads.Post
   add-row c =
       let s = c .before .before .before .before .before .before .before .before .before .before in
-      omega (arith, edge-knee _ _ _ _ _ _ _ (s .pre .1 .1 .1) (s .pre .1 .1 .0) .1, c .greater .ensures)
+      omega (arith, edge-knee _ _ _ _ _ _ _ (s .pre .1 .1 .1) (s .pre .1 .1 .0) .1, c .most .ensures)
 
   is-far-requires : lts.Need-is-far-requires (at-knee-claims t) (at-knee-at t) reads.Post
   is-far-requires c κs = tt
@@ -34,7 +34,7 @@ module _ (t : ℕ) where
         omega (arith, s .pre .0, s .pre .1 .1 .1 .sizes),
         (
           given-kept _ _ _ _ _ _ (point .set-point .kept .0) (s .pre .1 .0),
-          hanging-as _ _ _ _ _ _ _ _ _ (ap (λ (n : ℕ). n + 1) (most .greater .ensures)) (hanging-far _ _ _ _ _ _ _ (s .pre .1 .1 .1) (sym (c .before .before .is-far .ensures) ∙ c .before .if1 .taken) (s .pre .1 .1 .0)),
+          hanging-as _ _ _ _ _ _ _ _ _ (ap (λ (n : ℕ). n + 1) (most .most .ensures)) (hanging-far _ _ _ _ _ _ _ (s .pre .1 .1 .1) (sym (c .before .before .is-far .ensures) ∙ c .before .if1 .taken) (s .pre .1 .1 .0)),
         ),
       )
 
@@ -55,7 +55,7 @@ module _ (t : ℕ) where
       let most = far .before in
       let point = most .before .before .before in
       let s = point .before .before .before .before .before .before .before in
-      after-far _ _ _ _ _ _ _ (s .pre .1 .1 .1) _ _ _ _ _ _ (most .greater .ensures) (point .set-point .ensures) (hung .draw-hung .ensures) (c .onward .ensures) (sym (far .is-far .ensures) ∙ test1 .if1 .taken) (s .pre .1 .1 .0)
+      after-far _ _ _ _ _ _ _ (s .pre .1 .1 .1) _ _ _ _ _ _ (most .most .ensures) (point .set-point .ensures) (hung .draw-hung .ensures) (c .onward .ensures) (sym (far .is-far .ensures) ∙ test1 .if1 .taken) (s .pre .1 .1 .0)
 
   onward-requires-2 : lts.Need-onward-requires-2 (at-knee-claims t) (at-knee-at t) reads.Post
   onward-requires-2 c κs = tt
@@ -68,7 +68,7 @@ module _ (t : ℕ) where
       let most = c .before .before .before in
       let point = most .before .before .before in
       let s = point .before .before .before .before .before .before .before in
-      after-near _ _ _ _ _ _ _ (s .pre .1 .1 .1) _ _ _ _ (most .greater .ensures) (point .set-point .ensures) (c .onward2 .ensures) (sym (c .before .before .is-far .ensures) ∙ c .before .if1 .left) (s .pre .1 .1 .0)
+      after-near _ _ _ _ _ _ _ (s .pre .1 .1 .1) _ _ _ _ (most .most .ensures) (point .set-point .ensures) (c .onward2 .ensures) (sym (c .before .before .is-far .ensures) ∙ c .before .if1 .left) (s .pre .1 .1 .0)
 
 pub at-knee-closed : {M : Type 1} (t : ℕ) → lts.Closed (at-knee-claims t) (at-knee-at t) reads.Post M
 at-knee-closed t =
@@ -77,7 +77,7 @@ at-knee-closed t =
     (at-knee-at t)
     reads.Post
     (set-point-requires t)
-    (greater-requires t)
+    (most-requires t)
     (add-row t)
     (is-far-requires t)
     (draw-hung-requires t)

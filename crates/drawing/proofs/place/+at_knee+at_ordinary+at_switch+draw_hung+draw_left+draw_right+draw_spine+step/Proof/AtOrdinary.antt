@@ -32,8 +32,8 @@ module _ (t : ℕ) where
   sub-lowest : lts.Need-sub-lowest (at-ordinary-claims t) (at-ordinary-at t) reads.Post
   sub-lowest c = omega (arith, c .before .before .draw-hung .ensures .ends)
 
-  greater-requires : lts.Need-greater-requires (at-ordinary-claims t) (at-ordinary-at t) reads.Post
-  greater-requires c κs = tt
+  most-requires : lts.Need-most-requires (at-ordinary-claims t) (at-ordinary-at t) reads.Post
+  most-requires c κs = tt
 
   onward-requires : lts.Need-onward-requires (at-ordinary-claims t) (at-ordinary-at t) reads.Post
   onward-requires c κs = tt
@@ -47,7 +47,7 @@ module _ (t : ℕ) where
       let point = hung .before .before .before .before .before in
       let in1 = point .before in
       let s = in1 .before .before .before .before .before .before .before in
-      after-ordinary _ _ _ _ _ _ _ (s .pre .1 .1 .1) _ _ _ _ _ _ _ (in1 .inwards .ensures .0) (point .set-point .ensures) (hung .draw-hung .ensures) (c .before .greater .ensures) (c .onward .ensures) (s .pre .1 .1 .0)
+      after-ordinary _ _ _ _ _ _ _ (s .pre .1 .1 .1) _ _ _ _ _ _ _ (in1 .inwards .ensures .0) (point .set-point .ensures) (hung .draw-hung .ensures) (c .before .most .ensures) (c .onward .ensures) (s .pre .1 .1 .0)
 
 pub at-ordinary-closed : {M : Type 1} (t : ℕ) → lts.Closed (at-ordinary-claims t) (at-ordinary-at t) reads.Post M
 at-ordinary-closed t =
@@ -60,7 +60,7 @@ at-ordinary-closed t =
     (add-row t)
     (draw-hung-requires t)
     (sub-lowest t)
-    (greater-requires t)
+    (most-requires t)
     (onward-requires t)
     (same-length t)
     (returns t)

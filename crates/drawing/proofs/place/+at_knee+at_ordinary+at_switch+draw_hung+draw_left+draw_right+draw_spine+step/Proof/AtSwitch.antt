@@ -3,7 +3,7 @@ use mathlib.Core.Path.{_∙_}
 use Prim.Native.Nat.{ℕ, _+_}
 use borrow.Author.Needs.{needs}
 use native.Mathlib.Omega.{arith}
-use Rattle.drawing.proofs.Walking.{entry-within, given-kept, hanging-as, column-switch, gap-at-switch, rows-at-switch, hanging-switch, hanging-pending, after-switch}
+use Rattle.drawing.proofs.Walking.{entry-within, given-kept, hanging-as, column-switch, widest-at-switch, rows-at-switch, hanging-switch, hanging-pending, after-switch}
 use Rattle.drawing.proofs.place.at_switch.Reads as reads
 use Rattle.drawing.proofs.place.+at_knee+at_ordinary+at_switch+draw_hung+draw_left+draw_right+draw_spine+step.Lts-at_switch as lts
 use Rattle.drawing.proofs.place.+at_knee+at_ordinary+at_switch+draw_hung+draw_left+draw_right+draw_spine+step.Proof.Measures.{at-switch-claims, at-switch-at}
@@ -50,12 +50,12 @@ module _ (t : ℕ) where
   add-inwards : lts.Need-add-inwards (at-switch-claims t) (at-switch-at t) reads.Post
   add-inwards c =
       let s = c .before .before .before .before .before .before .before .before .before .before .before .before .before .before .before .before .before .before .before .before in
-      omega (arith, gap-at-switch _ _ _ _ _ _ _ (s .pre .1 .1 .1) (s .pre .1 .1 .0))
+      omega (arith, widest-at-switch _ _ _ _ _ _ _ (s .pre .1 .1 .1) (s .pre .1 .1 .0))
 
   inwards-requires-2 : lts.Need-inwards-requires-2 (at-switch-claims t) (at-switch-at t) reads.Post
   inwards-requires-2 c κs =
       let s = c .before .before .before .before .before .before .before .before .before .before .before .before .before .before .before .before .before .before .before .before in
-      column-switch _ _ _ _ _ _ _ (s .pre .1 .1 .1) (s .pre .1 .1 .0) (s .args .w .gap + 2) (omega arith)
+      column-switch _ _ _ _ _ _ _ (s .pre .1 .1 .1) (s .pre .1 .1 .0) (s .args .w .widest + 2) (omega arith)
 
   same-length : lts.Need-same-length (at-switch-claims t) (at-switch-at t) reads.Post
   same-length c = search needs

@@ -6,30 +6,30 @@ use native.Mathlib.Nat.{pos-of-ne-zero}
 use Rattle.table.specs.Tree.{size, treeAt}
 use Rattle.measure.proofs.Forks.{named-within}
 use Rattle.drawing.proofs.Walking.{size-none, given-kept}
-use Rattle.drawing.proofs.Starting.{going-start, hung-start, hanging-end, Walked, walked-start, walked-on, walked-end}
+use Rattle.drawing.proofs.Starting.{going-start, hung-start, hanging-end, SoFar, walked-start, walked-on, walked-end}
 use Rattle.drawing.proofs.place.draw_spine.Reads as reads
 use Rattle.drawing.proofs.place.+at_knee+at_ordinary+at_switch+draw_hung+draw_left+draw_right+draw_spine+step.Lts-draw_spine as lts
 use Rattle.drawing.proofs.place.+at_knee+at_ordinary+at_switch+draw_hung+draw_left+draw_right+draw_spine+step.Proof.Measures.{draw-spine-claims, draw-spine-at}
 
 abbrev Inv-loop : lts.InvT-loop
-Inv-loop table sizes roles gaps placements₀ root edge top mirrored gap w₀ placements w = Walked table roles gaps placements₀ w₀ placements w
+Inv-loop table sizes roles widest placements₀ root edge top mirrored w₀ placements w = SoFar table roles widest placements₀ w₀ placements w
 
 abbrev μ-loop : lts.MeasureT-loop
-μ-loop table sizes roles gaps placements₀ root edge top mirrored gap w₀ placements w = size (treeAt table (w .at))
+μ-loop table sizes roles widest placements₀ root edge top mirrored w₀ placements w = size (treeAt table (w .at))
 
 module _ (t : ℕ) where
-  mul-gap : lts.Need-mul-gap (draw-spine-claims t) (draw-spine-at t) reads.Post Inv-loop μ-loop
-  mul-gap c =
+  mul-t12 : lts.Need-mul-t12 (draw-spine-claims t) (draw-spine-at t) reads.Post Inv-loop μ-loop
+  mul-t12 c =
       let s = c .before .before .before .before .before in
       omega (arith, named-within _ (s .pre .1 .0 .sound) _ (s .pre .1 .1 .0 .named))
 
-  shared-slice-read-gap : lts.Need-shared-slice-read-gap (draw-spine-claims t) (draw-spine-at t) reads.Post Inv-loop μ-loop
-  shared-slice-read-gap c =
+  shared-slice-read-t14 : lts.Need-shared-slice-read-t14 (draw-spine-claims t) (draw-spine-at t) reads.Post Inv-loop μ-loop
+  shared-slice-read-t14 c =
       let s = c .before .before .before .before .before .before in
-      omega (arith, named-within _ (s .pre .1 .0 .sound) _ (s .pre .1 .1 .0 .named), s .pre .1 .0 .long-gaps)
+      omega (arith, named-within _ (s .pre .1 .0 .sound) _ (s .pre .1 .1 .0 .named), s .pre .1 .0 .long-widest)
 
-  cast-gap : lts.Need-cast-gap (draw-spine-claims t) (draw-spine-at t) reads.Post Inv-loop μ-loop
-  cast-gap c =
+  cast-t15 : lts.Need-cast-t15 (draw-spine-claims t) (draw-spine-at t) reads.Post Inv-loop μ-loop
+  cast-t15 c =
       let s = c .before .before .before .before .before .before in
       omega (arith, c .shared-slice-known5 .given (s .args .root))
 
@@ -88,9 +88,9 @@ draw-spine-closed t =
     reads.Post
     Inv-loop
     μ-loop
-    (mul-gap t)
-    (shared-slice-read-gap t)
-    (cast-gap t)
+    (mul-t12 t)
+    (shared-slice-read-t14 t)
+    (cast-t15 t)
     (loop-holds t)
     (step-requires t)
     (loop-less t)

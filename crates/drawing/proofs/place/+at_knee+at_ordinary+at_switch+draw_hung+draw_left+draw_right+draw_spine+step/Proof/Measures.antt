@@ -3,7 +3,7 @@ use Prim.Native.Nat.{ℕ, _+_, _*_, _<_}
 use borrow.Fn.Kinds.{In}
 use borrow.Fn.PlainCycle.{Measures, is, falls, and}
 use Rattle.table.specs.Tree.{size, treeAt}
-use Rattle.drawing.specs.Placing.{unplaced}
+use Rattle.drawing.specs.inner.Placing.{unplaced}
 use Rattle.drawing.proofs.place.at_knee.Reads as at-knee
 use Rattle.drawing.proofs.place.at_knee.Kinds as at-knee-kinds
 use Rattle.drawing.proofs.place.+at_knee+at_ordinary+at_switch+draw_hung+draw_left+draw_right+draw_spine+step.Lts-at_knee as at-knee-lts
@@ -29,7 +29,7 @@ use Rattle.drawing.proofs.place.step.Reads as step
 use Rattle.drawing.proofs.place.step.Kinds as step-kinds
 use Rattle.drawing.proofs.place.+at_knee+at_ordinary+at_switch+draw_hung+draw_left+draw_right+draw_spine+step.Lts-step as step-lts
 use Rattle.measure.proofs.fork_at.Reads as fork-at-reads
-use Rattle.drawing.proofs.place.greater.Reads as greater-reads
+use Rattle.measure.proofs.most.Reads as most-reads
 use Rattle.drawing.proofs.place.inwards.Reads as inwards-reads
 use Rattle.drawing.proofs.place.is_far.Reads as is-far-reads
 use Rattle.drawing.proofs.place.is_knee.Reads as is-knee-reads
@@ -111,10 +111,10 @@ abbrev pub step-below : ℕ → In 5 step-kinds.ps
 step-below t = and 5 step-kinds.ps (falls 5 step-kinds.ps _<_ μ-step t) step.Pre
 
 abbrev pub at-knee-claims : ℕ → at-knee-lts.Claims
-at-knee-claims t = (set-point-reads.Asked, set-point-reads.Learnt, greater-reads.Asked, greater-reads.Learnt, is-far-reads.Asked, is-far-reads.Learnt, draw-hung-below t, draw-hung.Post, onward-reads.Asked, onward-reads.Learnt)
+at-knee-claims t = (set-point-reads.Asked, set-point-reads.Learnt, most-reads.Asked, most-reads.Learnt, is-far-reads.Asked, is-far-reads.Learnt, draw-hung-below t, draw-hung.Post, onward-reads.Asked, onward-reads.Learnt)
 
 abbrev pub at-ordinary-claims : ℕ → at-ordinary-lts.Claims
-at-ordinary-claims t = (inwards-reads.Asked, inwards-reads.Learnt, set-point-reads.Asked, set-point-reads.Learnt, draw-hung-below t, draw-hung.Post, greater-reads.Asked, greater-reads.Learnt, onward-reads.Asked, onward-reads.Learnt)
+at-ordinary-claims t = (inwards-reads.Asked, inwards-reads.Learnt, set-point-reads.Asked, set-point-reads.Learnt, draw-hung-below t, draw-hung.Post, most-reads.Asked, most-reads.Learnt, onward-reads.Asked, onward-reads.Learnt)
 
 abbrev pub at-switch-claims : ℕ → at-switch-lts.Claims
 at-switch-claims t = (inwards-reads.Asked, inwards-reads.Learnt, set-point-reads.Asked, set-point-reads.Learnt, draw-hung-below t, draw-hung.Post)

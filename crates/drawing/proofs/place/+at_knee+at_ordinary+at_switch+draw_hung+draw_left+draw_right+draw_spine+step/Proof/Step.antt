@@ -4,7 +4,7 @@ use Prim.Native.Nat.{ℕ}
 use borrow.Author.Needs.{needs}
 use native.Mathlib.Omega.{arith}
 use Rattle.layout.specs.Spine.{knee, ordinary, switch}
-use Rattle.measure.specs.Roles.{roleOf}
+use Rattle.measure.specs.inner.Roles.{roleOf}
 use Rattle.measure.proofs.Forks.{named-within}
 use Rattle.measure.proofs.Choices.{switch-is}
 use Rattle.drawing.proofs.Starting.{named-node}

@@ -3,15 +3,13 @@ use mathlib.Core.Path.{_≡_}
 use mathlib.Core.Logic.{_⊎_}
 use mathlib.Core.List.{List}
 use Prim.Native.Nat.{ℕ}
-use lib.Dec.{T}
 use lib.ListN.{getD, length}
-use Rattle.table.specs.Lists.{member}
-use Rattle.table.specs.Table.{chain}
+use Rattle.table.specs.Table.{Chained}
 use Rattle.table.specs.Tree.{size, treeAt}
 
 -- A record of the chain, or zero for none: what a link of an accepted table names.
 abbrev pub Named : List ℕ → ℕ → Type 0
-Named t k = (k ≡ 0) ⊎ T (member k (chain t))
+Named t k = (k ≡ 0) ⊎ Chained t k
 
 -- s lists the sizes of the subtrees of the table t.
 pub record Sized (t s : List ℕ) : Type 0 where

@@ -6,8 +6,8 @@ use Prim.Native.Nat.{ℕ, _+_}
 use Rattle.table.specs.Table.{Side, left, right}
 use Rattle.table.specs.Tree.{size, treeAt}
 use Rattle.layout.specs.Spine.{hangs}
-use Rattle.layout.specs.Held.{spineOn}
-use Rattle.measure.specs.Sized.{Named}
+use Rattle.layout.specs.inner.Held.{spineOn}
+use Rattle.measure.specs.inner.Sized.{Named}
 
 -- Code has a side as a bool: true for the right.
 abbrev pub sideOf : Bool → Side

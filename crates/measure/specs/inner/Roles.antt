@@ -11,8 +11,8 @@ use Rattle.layout.specs.Spine.{SpineNode, hangs, Role as LayoutRole, knee, ordi
 use Rattle.measure.specs.declared.Fork.{Fork}
 use Rattle.measure.specs.declared.roles.Role.{Role}
 use Rattle.measure.specs.declared.roles.Role.the-variants.{LeftKnee, OrdinaryLeft, SwitchRight, RightKnee, OrdinaryRight, SwitchLeft}
-use Rattle.measure.specs.Forked.{sideOf}
-use Rattle.measure.specs.Prepared.{codeOf}
+use Rattle.measure.specs.inner.Forked.{sideOf}
+use Rattle.measure.specs.inner.Prepared.{codeOf}
 
 -- Steps 1, 2 and 7: the hand of each role, and what it is on that hand.
 abbrev pub handOf : Role → Side

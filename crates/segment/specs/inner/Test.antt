@@ -20,8 +20,8 @@ unfoldable pub astride : Point → Point → Point → Point → Bool
 astride A B X Y = spans (cross A B X) (cross A B Y) || spans (cross A B Y) (cross A B X)
 
 -- a point with column and row exchanged
-abbrev pub flip : Point → Point
-flip P = at (P .row) (P .column)
+abbrev pub transpose : Point → Point
+transpose P = at (P .row) (P .column)
 
 -- the number of a point, counted row by row on a grid of b columns
 abbrev pub number : ℕ → Point → ℕ

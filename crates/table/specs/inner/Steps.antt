@@ -7,7 +7,7 @@ use lib.Dec.{T, eqb}
 use lib.ListN.{length, getD, take}
 use Rattle.table.specs.declared.Reading.{Reading}
 use Rattle.table.specs.Lists.{any, member, count}
-use Rattle.table.specs.Table.{records, chain, rootOf}
+use Rattle.table.specs.Table.{records, chain, Chained, rootOf}
 use Rattle.table.specs.Tree.{nodes, tree, treeAt, size}
 use Rattle.table.specs.Refusal.{badLength, badHead, badChain, badLinks, badTree, links, named}
 
@@ -60,7 +60,7 @@ pub record Rooted (t : List ℕ) : Type 0 where
   pub shaped : Shaped t
   pub sound : badChain t ≡ false
   pub linked : badLinks t ≡ false
-  pub root : T (member (rootOf t) (chain t))
+  pub root : Chained t (rootOf t)
   pub unnamed : named t (rootOf t) ≡ 0
   pub once : notOnce t ≡ false
 

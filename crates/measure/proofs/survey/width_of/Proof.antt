@@ -1,7 +1,7 @@
--- `measure::walk::width_of` meets its contract.
+-- `measure::survey::width_of` meets its contract.
 use borrow.Author.Needs.{needs}
-use Rattle.measure.proofs.walk.width_of.Statement.{statement}
-use Rattle.measure.proofs.walk.width_of.Tie as tie
+use Rattle.measure.proofs.survey.width_of.Statement.{statement}
+use Rattle.measure.proofs.survey.width_of.Tie as tie
 
 add-result : tie.Need-add-result
 add-result c = search needs

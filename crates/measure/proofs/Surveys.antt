@@ -1,4 +1,4 @@
--- The walk along a spine that measures it: what holds at each node, how one node is passed, and what the end gives. Rests on Choices, Frames and the
+-- The survey along a spine that measures it: what holds at each node, how one node is passed, and what the end gives. Rests on Choices, Frames and the
 -- width law.
 use mathlib.Core.Bool.{Bool, true, false, cond, _||_}
 use mathlib.Core.Path.{_≡_, refl, sym, ap, subst, _∙_}
@@ -18,18 +18,18 @@ use Rattle.table.proofs.Chain.{length-nodes}
 use Rattle.table.proofs.Accepted.{records-bounds, chain-length, size-below, tree-unfolds, tree-none}
 use Rattle.layout.specs.Spine.{SpineNode, hangs, Role, knee, ordinary, switch, opposite, seen, roleAfter, handAfter, assigned, Assigned, rolesAfter}
 use Rattle.layout.specs.Drawing.{Part, hang, widest, draw}
-use Rattle.layout.specs.Held.{facing, widthOn, spineOn, roleNext, rolesOn, widestOn}
-use Rattle.layout.specs.Width.{edge, turn}
+use Rattle.layout.specs.inner.Held.{facing, widthOn, spineOn, roleNext, rolesOn, widestOn}
+use Rattle.layout.specs.inner.Width.{edge, turn}
 use Rattle.layout.proofs.Spines.{parts}
 use Rattle.layout.proofs.Sides.{partsOn}
 use Rattle.layout.proofs.Width.{reaches, turns, width-law, widest-less, width-small}
 use Rattle.measure.specs.declared.roles.Role.{Role as CodeRole}
-use Rattle.measure.specs.declared.walk.Walk.{Walk}
-use Rattle.measure.specs.Sized.{Named}
-use Rattle.measure.specs.Forked.{Forked}
-use Rattle.measure.specs.Prepared.{codeOf, Prepared, no-spine, a-spine, Along, ended}
-use Rattle.measure.specs.Roles.{handOf, roleOf, withRoles}
-use Rattle.measure.specs.Measured.{Kept, Measured, Longer}
+use Rattle.measure.specs.declared.survey.Survey.{Survey}
+use Rattle.measure.specs.inner.Sized.{Named}
+use Rattle.measure.specs.inner.Forked.{Forked}
+use Rattle.measure.specs.inner.Prepared.{codeOf, Prepared, no-spine, a-spine, Along, ended}
+use Rattle.measure.specs.inner.Roles.{handOf, roleOf, withRoles}
+use Rattle.measure.specs.inner.Measured.{SameOutside, Measured, Longer}
 use Rattle.measure.proofs.Forks.{named-within}
 use Rattle.measure.proofs.Choices.{code-same, code-small}
 use Rattle.measure.proofs.Frames.{countOn, countHung, count-spine, hung-below, nodes-named, once, prepared-frame, along-frame, Coded, coded-frame, with-kept, with-coded, AlongAfter, along-node}
@@ -60,16 +60,16 @@ or-none : (b : Bool) → b || false ≡ b
 or-none true = refl
 or-none false = refl
 
--- At the record k of a walk from `root` with the counts g, e and b, which comes from a node of role o on the hand a: the lists were R₀ and G₀, and are R and G.
-pub record Walking (t : List ℕ) (s : Side) (root : ℕ) (R₀ G₀ R G : List ℕ) (k g e : ℕ) (b : Bool) (a : Side) (o : Role) : Type 0 where
+-- At the record k of a survey from `root` with the counts g, e and b, which comes from a node of role o on the hand a: the lists were R₀ and W₀, and are R and W.
+pub record Surveying (t : List ℕ) (s : Side) (root : ℕ) (R₀ W₀ R W : List ℕ) (k g e : ℕ) (b : Bool) (a : Side) (o : Role) : Type 0 where
   pub named : Named t k
   pub coded : Coded R a o (spineOn s (treeAt t k))
   -- what is prepared from here on, with nothing else changed, is prepared from the root on
-  pub finish : (R′ G′ : List ℕ) → Kept (treeAt t k) R R′ → Kept (treeAt t k) G G′ → AlongAfter R′ G′ a o (spineOn s (treeAt t k)) → AlongAfter R′ G′ (opposite s) switch (spineOn s (treeAt t root))
+  pub finish : (R′ W′ : List ℕ) → SameOutside (treeAt t k) R R′ → SameOutside (treeAt t k) W W′ → AlongAfter R′ W′ a o (spineOn s (treeAt t k)) → AlongAfter R′ W′ (opposite s) switch (spineOn s (treeAt t root))
   pub inside : (x : ℕ) → count x (nodes (treeAt t k)) ≤ count x (nodes (treeAt t root))
-  pub kept-roles : Kept (treeAt t root) R₀ R
-  pub kept-gaps : Kept (treeAt t root) G₀ G
-  pub gap : max g (widest (parts draw a o (spineOn s (treeAt t k)))) ≡ widestOn s (treeAt t root)
+  pub kept-roles : SameOutside (treeAt t root) R₀ R
+  pub kept-widest : SameOutside (treeAt t root) W₀ W
+  pub widest : max g (widest (parts draw a o (spineOn s (treeAt t k)))) ≡ widestOn s (treeAt t root)
   pub reach : max e (reaches (parts draw a o (spineOn s (treeAt t k)))) ≡ reaches (partsOn s (treeAt t root))
   pub turned : b || turns (parts draw a o (spineOn s (treeAt t k))) ≡ turns (partsOn s (treeAt t root))
 
@@ -80,7 +80,7 @@ first-roles s [] = refl
 first-roles left (l ∷ ls) = refl
 first-roles right (l ∷ ls) = refl
 
-first-along : {R G : List ℕ} (s : Side) (ls : List SpineNode) → AlongAfter R G (opposite s) switch ls → Along R G s knee ls
+first-along : {R W : List ℕ} (s : Side) (ls : List SpineNode) → AlongAfter R W (opposite s) switch ls → Along R W s knee ls
 unfolding roleNext handAfter roleAfter opposite
 first-along s [] l = ended
 first-along left (n ∷ ls) l = l
@@ -92,16 +92,16 @@ size-small t ok k (inl e) = rw (e, tree-none t) (unfold size in omega arith)
 size-small t ok k (inr h) = omega (arith, size-below t ok k h, chain-length t ok, records-bounds t ok)
 
 module _ (t : List ℕ) (ok : fault t ≡ 0) (s : Side) (root : ℕ) where
-  pub start : Named t root → (R G : List ℕ) → length R ≡ 4097 → (R₀ : List ℕ) → R₀ ≡ withRoles (opposite s) switch (spineOn s (treeAt t root)) R → Walking t s root R₀ G R₀ G root 0 0 false (opposite s) switch
+  pub start : Named t root → (R W : List ℕ) → length R ≡ 4097 → (R₀ : List ℕ) → R₀ ≡ withRoles (opposite s) switch (spineOn s (treeAt t root)) R → Surveying t s root R₀ W R₀ W root 0 0 false (opposite s) switch
   unfolding widestOn
-  start n R G z R₀ e = record {
+  start n R W z R₀ e = record {
     named = n;
     coded = subst (λ (X : List ℕ). Coded X (opposite s) switch ls) (sym e) (with-coded (opposite s) switch ls R (λ x. omega (arith, once t ok root n x, count-spine s x S)) (λ x i. within x i));
-    finish = λ R′ G′ kr kg l. l;
+    finish = λ R′ W′ kr kg l. l;
     inside = λ x. omega arith;
     kept-roles = λ x i. refl;
-    kept-gaps = λ x i. refl;
-    gap = omega (arith, ap (λ (rs : List Assigned). widest (map (hang draw) rs)) (first-roles s ls));
+    kept-widest = λ x i. refl;
+    widest = omega (arith, ap (λ (rs : List Assigned). widest (map (hang draw) rs)) (first-roles s ls));
     reach = omega (arith, ap (λ (rs : List Assigned). reaches (map (hang draw) rs)) (first-roles s ls));
     turned = ap (λ (rs : List Assigned). turns (map (hang draw) rs)) (first-roles s ls);
   }
@@ -115,7 +115,7 @@ module _ (t : List ℕ) (ok : fault t ≡ 0) (s : Side) (root : ℕ) where
       within : (x : ℕ) → 1 ≤ countOn x ls → x < length R
       within x i = omega (arith, named-within t ok x (nodes-named t ok root n x (omega (arith, count-spine s x S))))
 
-  module _ {R₀ G₀ R G : List ℕ} {k g e : ℕ} {b : Bool} {a : Side} {o : Role} (v : Walking t s root R₀ G₀ R G k g e b a o) {k′ hung : ℕ} {h : Side} (d : Forked t s k k′ hung h) where
+  module _ {R₀ W₀ R W : List ℕ} {k g e : ℕ} {b : Bool} {a : Side} {o : Role} (v : Surveying t s root R₀ W₀ R W k g e b a o) {k′ hung : ℕ} {h : Side} (d : Forked t s k k′ hung h) where
     abbrev hand : Side
     hand = handAfter o a
 
@@ -135,88 +135,88 @@ module _ (t : List ℕ) (ok : fault t ≡ 0) (s : Side) (root : ℕ) where
     abbrev ls : List SpineNode
     ls = spineOn s (treeAt t k′)
 
-    pub pass : (R′ G′ : List ℕ) (w : ℕ) → Measured t hand hung R G R′ G′ w → Walking t s root R₀ G₀ R′ G′ k′ (max g w) (max e (edge role + w)) (turn role b) hand role
+    pub pass : (R′ W′ : List ℕ) (w : ℕ) → Measured t hand hung R W R′ W′ w → Surveying t s root R₀ W₀ R′ W′ k′ (max g w) (max e (edge role + w)) (turn role b) hand role
     unfolding rolesAfter
-    pass R′ G′ w m = record {
+    pass R′ W′ w m = record {
       named = d .named-spine;
       coded = coded-frame R R′ hand role ls (coded-here .1) (λ x (i : 1 ≤ countOn x ls). m .kept-roles x (omega (arith, single x, count-spine s x (treeAt t k′))));
-      finish = λ R″ G″ kr kg l. v .finish R″ G″ (λ x i. kr x (omega (arith, counted x)) ∙ m .kept-roles x (omega (arith, counted x))) (λ x i. kg x (omega (arith, counted x)) ∙ m .kept-gaps x (omega (arith, counted x)))
-          (subst (AlongAfter R″ G″ a o) (sym (d .forks)) (along-node a o k h (treeAt t hung) ls (here R″ kr) (hangs-on R″ G″ kr kg) l));
+      finish = λ R″ W″ kr kg l. v .finish R″ W″ (λ x i. kr x (omega (arith, counted x)) ∙ m .kept-roles x (omega (arith, counted x))) (λ x i. kg x (omega (arith, counted x)) ∙ m .kept-widest x (omega (arith, counted x)))
+          (subst (AlongAfter R″ W″ a o) (sym (d .forks)) (along-node a o k h (treeAt t hung) ls (here R″ kr) (hangs-on R″ W″ kr kg) l));
       inside = λ x. omega (arith, counted x, v .inside x);
       kept-roles = λ x i. m .kept-roles x (omega (arith, counted x, v .inside x)) ∙ v .kept-roles x i;
-      kept-gaps = λ x i. m .kept-gaps x (omega (arith, counted x, v .inside x)) ∙ v .kept-gaps x i;
-      gap = omega (arith, ap (λ (ns : List SpineNode). widest (parts draw a o ns)) (d .forks), widest-node hand role k h (treeAt t hung) (parts draw hand role ls), m .wide, v .gap);
+      kept-widest = λ x i. m .kept-widest x (omega (arith, counted x, v .inside x)) ∙ v .kept-widest x i;
+      widest = omega (arith, ap (λ (ns : List SpineNode). widest (parts draw a o ns)) (d .forks), widest-node hand role k h (treeAt t hung) (parts draw hand role ls), m .wide, v .widest);
       reach = omega (arith, ap (λ (ns : List SpineNode). reaches (parts draw a o ns)) (d .forks), reaches-node hand role k h (treeAt t hung) (parts draw hand role ls), m .wide, v .reach);
       turned = turn-or role b (turns (parts draw hand role ls))
           ∙ ap (λ (c : Bool). b || c) (sym (ap (λ (ns : List SpineNode). turns (parts draw a o ns)) (d .forks) ∙ turns-node hand role k h (treeAt t hung) (parts draw hand role ls)))
           ∙ v .turned;
     }
       where
-        here : (R″ : List ℕ) → Kept (treeAt t k′) R′ R″ → getD R″ k 0 ≡ codeOf hand role
+        here : (R″ : List ℕ) → SameOutside (treeAt t k′) R′ R″ → getD R″ k 0 ≡ codeOf hand role
         here R″ kr = kr k (omega (arith, single k, same-one k k refl)) ∙ m .kept-roles k (omega (arith, single k, same-one k k refl)) ∙ coded-here .0
 
-        hangs-on : (R″ G″ : List ℕ) → Kept (treeAt t k′) R′ R″ → Kept (treeAt t k′) G′ G″ → Prepared R″ G″ hand (treeAt t hung)
-        hangs-on R″ G″ kr kg =
-            prepared-frame R″ G″ (m .prepared) (λ x (i : 1 ≤ count x (nodes (treeAt t hung))). kr x (omega (arith, single x))) (λ x (i : 1 ≤ count x (nodes (treeAt t hung))). kg x (omega (arith, single x)))
+        hangs-on : (R″ W″ : List ℕ) → SameOutside (treeAt t k′) R′ R″ → SameOutside (treeAt t k′) W′ W″ → Prepared R″ W″ hand (treeAt t hung)
+        hangs-on R″ W″ kr kg =
+            prepared-frame R″ W″ (m .prepared) (λ x (i : 1 ≤ count x (nodes (treeAt t hung))). kr x (omega (arith, single x))) (λ x (i : 1 ≤ count x (nodes (treeAt t hung))). kg x (omega (arith, single x)))
 
-  pub size-inside : {R₀ G₀ R G : List ℕ} {k g e : ℕ} {b : Bool} {a : Side} {o : Role} → Walking t s root R₀ G₀ R G k g e b a o → size (treeAt t k) ≤ size (treeAt t root)
+  pub size-inside : {R₀ W₀ R W : List ℕ} {k g e : ℕ} {b : Bool} {a : Side} {o : Role} → Surveying t s root R₀ W₀ R W k g e b a o → size (treeAt t k) ≤ size (treeAt t root)
   size-inside {k} v = omega (arith, length-within (nodes (treeAt t k)) (nodes (treeAt t root)) (v .inside), length-nodes (treeAt t k), length-nodes (treeAt t root))
 
-  -- The end of the walk.
-  module _ (c : T (member root (chain t))) {R₀ G₀ R G : List ℕ} {k g e : ℕ} {b : Bool} {a : Side} {o : Role} (v : Walking t s root R₀ G₀ R G k g e b a o) where
+  -- The end of the survey.
+  module _ (c : T (member root (chain t))) {R₀ W₀ R W : List ℕ} {k g e : ℕ} {b : Bool} {a : Side} {o : Role} (v : Surveying t s root R₀ W₀ R W k g e b a o) where
     abbrev S : Tree
     S = treeAt t root
 
-    pub gap-small : g ≤ 37
-    gap-small = omega (arith, v .gap, widest-less s S, width-small s S (size-small t ok root (inr c)))
+    pub widest-small : g ≤ 37
+    widest-small = omega (arith, v .widest, widest-less s S, width-small s S (size-small t ok root (inr c)))
 
     none-left : k ≡ 0 → spineOn s (treeAt t k) ≡ []
     unfolding spineOn
     none-left z = rw (z, tree-none t) refl
 
-    pub gap-whole : k ≡ 0 → g ≡ widestOn s S
+    pub widest-whole : k ≡ 0 → g ≡ widestOn s S
     unfolding rolesAfter widest
-    gap-whole z = omega (arith, ap (λ (ls : List SpineNode). widest (parts draw a o ls)) (none-left z), v .gap)
+    widest-whole z = omega (arith, ap (λ (ls : List SpineNode). widest (parts draw a o ls)) (none-left z), v .widest)
 
     pub wide-whole : k ≡ 0 → cond b (g + 3) e ≡ widthOn s S
     unfolding rolesAfter reaches turns
-    wide-whole z = cc (width-law s S, gap-whole z, counts .0, counts .1)
+    wide-whole z = cc (width-law s S, widest-whole z, counts .0, counts .1)
       where
         counts : (e ≡ reaches (partsOn s S)) × (b ≡ turns (partsOn s S))
         counts = (omega (arith, ap (λ (ls : List SpineNode). reaches (parts draw a o ls)) (none-left z), v .reach), sym (or-none b) ∙ ap (λ (d : Bool). b || d) (sym (ap (λ (ls : List SpineNode). turns (parts draw a o ls)) (none-left z))) ∙ v .turned)
 
-    pub along-whole : k ≡ 0 → Along R G s knee (spineOn s S)
-    along-whole z = first-along s (spineOn s S) (v .finish R G (λ x i. refl) (λ x i. refl) (subst (AlongAfter R G a o) (sym (none-left z)) ended))
+    pub along-whole : k ≡ 0 → Along R W s knee (spineOn s S)
+    along-whole z = first-along s (spineOn s S) (v .finish R W (λ x i. refl) (λ x i. refl) (subst (AlongAfter R W a o) (sym (none-left z)) ended))
 
     -- W goes to the root's entry, and nothing that is prepared stands there.
     root-counted : (x : ℕ) → x ≡ root → 1 + countHung x (spineOn s S) ≤ count x (nodes S)
     root-counted x d = rw (d, tree-unfolds t ok root c) (hung-below s root _ _)
 
-    pub measured : (R₁ : List ℕ) → R₀ ≡ withRoles (opposite s) switch (spineOn s S) R₁ → length G ≡ 4097 → k ≡ 0 → (w : ℕ) → w ≡ cond b (g + 3) e → Measured t s root R₁ G₀ R (set G root g) w
+    pub measured : (R₁ : List ℕ) → R₀ ≡ withRoles (opposite s) switch (spineOn s S) R₁ → length W ≡ 4097 → k ≡ 0 → (w : ℕ) → w ≡ cond b (g + 3) e → Measured t s root R₁ W₀ R (set W root g) w
     measured R₁ i l z w j = record {
       wide = j ∙ wide-whole z;
       prepared = top (tree-unfolds t ok root c);
       kept-roles = λ x n. v .kept-roles x n ∙ (ap (λ (X : List ℕ). getD X x 0) i ∙ with-kept (opposite s) switch (spineOn s S) R₁ x (sym (count-spine s x S) ∙ n));
-      kept-gaps = λ x n. getD-set-other G root x g 0 (λ d. omega (arith, root-counted x d)) ∙ v .kept-gaps x n;
+      kept-widest = λ x n. getD-set-other W root x g 0 (λ d. omega (arith, root-counted x d)) ∙ v .kept-widest x n;
     }
       where
-        along : Along R (set G root g) s knee (spineOn s S)
-        along = along-frame R (set G root g) (along-whole z) (λ x q. refl) (λ x (q : 1 ≤ countHung x (spineOn s S)). getD-set-other G root x g 0 (λ d. omega (arith, root-counted x d, once t ok root (inr c) x)))
+        along : Along R (set W root g) s knee (spineOn s S)
+        along = along-frame R (set W root g) (along-whole z) (λ x q. refl) (λ x (q : 1 ≤ countHung x (spineOn s S)). getD-set-other W root x g 0 (λ d. omega (arith, root-counted x d, once t ok root (inr c) x)))
 
-        top : {A B : Tree} → S ≡ node root A B → Prepared R (set G root g) s S
+        top : {A B : Tree} → S ≡ node root A B → Prepared R (set W root g) s S
         top d =
-            subst (Prepared R (set G root g) s) (sym d)
-            (a-spine (getD-set-same G root g 0 (omega (arith, named-within t ok root (inr c))) ∙ gap-whole z ∙ ap (widestOn s) d) (subst (λ (U : Tree). Along R (set G root g) s knee (spineOn s U)) d along))
+            subst (Prepared R (set W root g) s) (sym d)
+            (a-spine (getD-set-same W root g 0 (omega (arith, named-within t ok root (inr c))) ∙ widest-whole z ∙ ap (widestOn s) d) (subst (λ (U : Tree). Along R (set W root g) s knee (spineOn s U)) d along))
 
--- The same at a walk as the program has it.
-pub record Measuring (t : List ℕ) (s : Side) (root : ℕ) (R₀ G₀ R G : List ℕ) (v : Walk) : Type 0 where
+-- The same at a survey as the program has it.
+pub record Measuring (t : List ℕ) (s : Side) (root : ℕ) (R₀ W₀ R W : List ℕ) (v : Survey) : Type 0 where
   pub long-roles : length R ≡ 4097
-  pub long-gaps : length G ≡ 4097
+  pub long-widest : length W ≡ 4097
   pub hand : Side
   pub role : Role
-  pub walking : Walking t s root R₀ G₀ R G (v .at) (v .gap) (v .reach) (v .turned) hand role
+  pub walking : Surveying t s root R₀ W₀ R W (v .at) (v .widest) (v .reach) (v .turned) hand role
 
-moved : {t : List ℕ} {s a : Side} {o : Role} {root k k′ g g′ e e′ : ℕ} {b b′ : Bool} {R₀ G₀ R G : List ℕ} → k′ ≡ k → g′ ≡ g → e′ ≡ e → b′ ≡ b → Walking t s root R₀ G₀ R G k g e b a o → Walking t s root R₀ G₀ R G k′ g′ e′ b′ a o
+moved : {t : List ℕ} {s a : Side} {o : Role} {root k k′ g g′ e e′ : ℕ} {b b′ : Bool} {R₀ W₀ R W : List ℕ} → k′ ≡ k → g′ ≡ g → e′ ≡ e → b′ ≡ b → Surveying t s root R₀ W₀ R W k g e b a o → Surveying t s root R₀ W₀ R W k′ g′ e′ b′ a o
 moved p q r u w = rw (p, q, r, u) w
 
 -- No subtree.
@@ -224,29 +224,29 @@ none-wide : (s : Side) → widthOn s none ≡ 0
 unfolding spineOn rolesOn turns reaches
 none-wide s = width-law s none
 
-pub measured-none : (t : List ℕ) (s : Side) (k : ℕ) (R G : List ℕ) → k ≡ 0 → Measured t s k R G R G 0
-measured-none t s k R G e = record { wide = sym (ap (widthOn s) none-there ∙ none-wide s); prepared = subst (Prepared R G s) (sym none-there) no-spine; kept-roles = λ x i. refl; kept-gaps = λ x i. refl }
+pub measured-none : (t : List ℕ) (s : Side) (k : ℕ) (R W : List ℕ) → k ≡ 0 → Measured t s k R W R W 0
+measured-none t s k R W e = record { wide = sym (ap (widthOn s) none-there ∙ none-wide s); prepared = subst (Prepared R W s) (sym none-there) no-spine; kept-roles = λ x i. refl; kept-widest = λ x i. refl }
   where
     none-there : treeAt t k ≡ none
     none-there = rw e (tree-none t)
 
 -- A drawing that is measured is narrow.
-pub measured-small : (t : List ℕ) → fault t ≡ 0 → {s : Side} {k w : ℕ} {R G R′ G′ : List ℕ} → Named t k → Measured t s k R G R′ G′ w → w ≤ 37
+pub measured-small : (t : List ℕ) → fault t ≡ 0 → {s : Side} {k w : ℕ} {R W R′ W′ : List ℕ} → Named t k → Measured t s k R W R′ W′ w → w ≤ 37
 measured-small t ok {s} {k} n m = omega (arith, m .wide, width-small s (treeAt t k) (size-small t ok k n))
 
-module _ (t : List ℕ) (ok : fault t ≡ 0) (s : Side) (root : ℕ) {R₀ G₀ R G : List ℕ} {v : Walk} (c : Measuring t s root R₀ G₀ R G v) {next hung : ℕ} {h : Side} (d : Forked t s (v .at) next hung h) where
+module _ (t : List ℕ) (ok : fault t ≡ 0) (s : Side) (root : ℕ) {R₀ W₀ R W : List ℕ} {v : Survey} (c : Measuring t s root R₀ W₀ R W v) {next hung : ℕ} {h : Side} (d : Forked t s (v .at) next hung h) where
   pub role-small : getD R (v .at) 0 < 6
   role-small = omega (arith, coded-here t ok s root (c .walking) d .0, code-small (hand t ok s root (c .walking) d) (role t ok s root (c .walking) d))
 
-  pub step : (r : CodeRole) → getD R (v .at) 0 ≡ codeOf (handOf r) (roleOf r) → (u : Side) → u ≡ handOf r → (R′ G′ : List ℕ) (w : ℕ) → length R′ ≡ length R → length G′ ≡ length G → Measured t u hung R G R′ G′ w →
-      (v′ : Walk) → Longer v r w next v′ → Measuring t s root R₀ G₀ R′ G′ v′
-  step r e u i R′ G′ w lr lg m v′ l = record {
+  pub step : (r : CodeRole) → getD R (v .at) 0 ≡ codeOf (handOf r) (roleOf r) → (u : Side) → u ≡ handOf r → (R′ W′ : List ℕ) (w : ℕ) → length R′ ≡ length R → length W′ ≡ length W → Measured t u hung R W R′ W′ w →
+      (v′ : Survey) → Longer v r w next v′ → Measuring t s root R₀ W₀ R′ W′ v′
+  step r e u i R′ W′ w lr lg m v′ l = record {
     long-roles = lr ∙ c .long-roles;
-    long-gaps = lg ∙ c .long-gaps;
+    long-widest = lg ∙ c .long-widest;
     hand = _;
     role = _;
-    walking = moved (l .at) (l .gap) (l .reach ∙ ap (λ (o : Role). max (v .reach) (edge o + w)) (same .1)) (l .turned ∙ ap (λ (o : Role). turn o (v .turned)) (same .1))
-        (pass t ok s root (c .walking) d R′ G′ w (subst (λ (a : Side). Measured t a hung R G R′ G′ w) (i ∙ same .0) m));
+    walking = moved (l .at) (l .widest) (l .reach ∙ ap (λ (o : Role). max (v .reach) (edge o + w)) (same .1)) (l .turned ∙ ap (λ (o : Role). turn o (v .turned)) (same .1))
+        (pass t ok s root (c .walking) d R′ W′ w (subst (λ (a : Side). Measured t a hung R W R′ W′ w) (i ∙ same .0) m));
   }
     where
       same : (handOf r ≡ hand t ok s root (c .walking) d) × (roleOf r ≡ role t ok s root (c .walking) d)

@@ -10,8 +10,8 @@ use lib.Signed.{ltZ}
 use lib.ListN.{length, getD, take}
 use Rattle.segment.specs.declared.Point.{Point}
 use Rattle.segment.specs.Segment.{Clash, cross}
-use Rattle.sort.specs.Order.{Below, Pairs}
-use Rattle.sweep.specs.Line.{startOf, endOf, first, last}
+use Rattle.sort.specs.inner.Order.{Below, Pairs}
+use Rattle.sweep.specs.inner.Line.{startOf, endOf, first, last}
 use Rattle.table.specs.Table.{Side, records, leftOf, rightOf, linkOf, rootOf, chain}
 use Rattle.table.specs.Refusal.{fault}
 use Rattle.verdict.specs.Lines.{pointOf, Line}
@@ -50,7 +50,7 @@ pub record Packed (p nodes : List ℕ) (n : ℕ) (up l : List ℕ) : Type 0 wher
   pub ends : (i : ℕ) → i < n → endOf (getD l i 0) ≡ nodeAt p nodes i
 
 -- The first n lines go to the first n nodes of a list: to a child from its parent, to the root from itself.
-pub record Listed (t p : List ℕ) (n : ℕ) (nodes l : List ℕ) : Type 0 where
+pub record LinesOf (t p : List ℕ) (n : ℕ) (nodes l : List ℕ) : Type 0 where
   pub ends : (i : ℕ) → i < n → endOf (getD l i 0) ≡ nodeAt p nodes i
   pub from-parent : (i k : ℕ) (s : Side) → i < n → Line t k s (getD nodes i 0) → startOf (getD l i 0) ≡ pointOf p k
   pub from-itself : (i : ℕ) → i < n → getD nodes i 0 ≡ rootOf t → startOf (getD l i 0) ≡ nodeAt p nodes i

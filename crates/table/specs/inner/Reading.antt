@@ -1,15 +1,13 @@
 -- What a reading of a table promises of its answer and of the two lists that it is lent.
 use mathlib.Core.Path.{_≡_}
-use lib.Dec.{T}
 use mathlib.Core.List.{List}
 use Prim.Native.Nat.{ℕ}
 use lib.ListN.{length, getD, take}
 use Rattle.table.specs.declared.Reading.{Reading}
-use Rattle.table.specs.Lists.{member}
-use Rattle.table.specs.Table.{chain}
+use Rattle.table.specs.Table.{chain, Chained}
 use Rattle.table.specs.Tree.{size, treeAt}
 use Rattle.table.specs.Refusal.{refusal}
-use Rattle.table.specs.Steps.{Ordered}
+use Rattle.table.specs.inner.Steps.{Ordered}
 
 -- n is the number of nodes, the first n numbers of list are the chain, and those of order the nodes, breadth first.
 pub record Traced (t : List ℕ) (n : ℕ) (list order : List ℕ) : Type 0 where
@@ -23,13 +21,13 @@ pub record TracedOf (t : List ℕ) (places : ℕ) (r : Reading) (list order : Li
   pub accepted : r .refusal ≡ 0 → Traced t (r .nodes) list order
 
 -- n is the number of nodes, the first n numbers of list are the chain, and sizes has the size of the subtree at each node, 0 at zero, which "is none".
-pub record Sized (t : List ℕ) (n : ℕ) (list sizes : List ℕ) : Type 0 where
+pub record Read (t : List ℕ) (n : ℕ) (list sizes : List ℕ) : Type 0 where
   pub nodes : n ≡ length (chain t)
   pub listed : take n list ≡ chain t
-  pub sized : (k : ℕ) → T (member k (chain t)) → getD sizes k 0 ≡ size (treeAt t k)
+  pub sized : (k : ℕ) → Chained t k → getD sizes k 0 ≡ size (treeAt t k)
   pub none : getD sizes 0 0 ≡ 0
 
 -- The same; a table that is not refused is listed and sized.
 pub record ReadOf (t : List ℕ) (places : ℕ) (r : Reading) (list sizes : List ℕ) : Type 0 where
   pub refusal : r .refusal ≡ refusal t places
-  pub accepted : r .refusal ≡ 0 → Sized t (r .nodes) list sizes
+  pub accepted : r .refusal ≡ 0 → Read t (r .nodes) list sizes

@@ -6,11 +6,11 @@ use mathlib.Core.List.{List}
 use Prim.Native.Nat.{ℕ, _≤_, _<_}
 use lib.ListN.{getD}
 use Rattle.segment.specs.declared.Point.{Point}
-use Rattle.segment.specs.Test.{flip}
-use Rattle.sweep.specs.Line.{startOf, endOf, first, last}
+use Rattle.segment.specs.inner.Test.{transpose}
+use Rattle.sweep.specs.inner.Line.{startOf, endOf, first, last}
 
 abbrev pub view : Bool → Point → Point
-view true P = flip P
+view true P = transpose P
 view false P = P
 
 -- The line r has the ends P and Q, in one order or the other, and does not go back.

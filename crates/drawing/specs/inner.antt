@@ -1,0 +1,2 @@
+-- What is left to place, for the contracts between functions only.
+pub mod Placing

@@ -1,0 +1,2 @@
+-- The tests that the code makes: proved to agree with the meaning.
+pub mod Test

@@ -1,0 +1,2 @@
+-- What the functions that write a part of the text say of their buffer.
+pub mod Put

@@ -1,0 +1,2 @@
+-- What the steps of a check say to each other.
+pub mod Steps
