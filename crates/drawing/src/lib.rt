@@ -51,7 +51,8 @@ fn plan_of(
     requires { ⌜ length (now roles) ≡ 4097 ⌝ }
     requires { ⌜ 2 * records (now table) ≤ length (now placements) ⌝ }
     requires { ⌜ nodes ≡ length (chainOf (now table)) ⌝ }
-    ensures { λ r. ⌜ (r ≡ planOf (now (table .entry))) × (now (placements .exit) ≡ store (drawing (tree (now (table .entry)))) (now (placements .entry))) ⌝ }
+    ensures { λ r. ⌜ (r ≡ planOf (now (table .entry)))
+        × (now (placements .exit) ≡ store (drawing (tree (now (table .entry)))) (now (placements .entry))) ⌝ }
 {
     let root = left(table, 0);
     let mut widest = [0u16; 4097];
@@ -66,7 +67,8 @@ fn plan_of(
 
 // Draws the tree of a table: its refusal and plan, and the placements of its nodes. All placements are kept on a refusal.
 pub fn draw(table: &[u8], placements: &mut [u16]) -> Drawn
-    ensures { λ r. ⌜ (r ≡ drawnOf (now (table .entry)) (now (placements .entry))) × (now (placements .exit) ≡ placedIn (now (table .entry)) (now (placements .entry))) ⌝ }
+    ensures { λ r. ⌜ (r ≡ drawnOf (now (table .entry)) (now (placements .entry)))
+        × (now (placements .exit) ≡ placedIn (now (table .entry)) (now (placements .entry))) ⌝ }
 {
     let mut chain = [0u16; 4097];
     let mut sizes = [0u16; 4097];

@@ -1,4 +1,5 @@
-// Placing: the points of a drawing, in the columns and rows of the whole plan. The roles and W of each spine are read; placing chooses none.
+// Placing: the points of a drawing, in the columns and rows of the whole plan, stored among the placements.
+// The roles and W of each spine are read; placing chooses none.
 use measure::Fork;
 use measure::fork_at;
 use measure::most;
@@ -56,14 +57,14 @@ fn is_knee(role: Role) -> bool
     }
 }
 
-fn set_point(placements: &mut [u16], k: usize, column: usize, row: usize)
-    requires { ⌜ 2 * k + 1 < length (now placements) ⌝ }
+fn set_point(points: &mut [u16], k: usize, column: usize, row: usize)
+    requires { ⌜ 2 * k + 1 < length (now points) ⌝ }
     requires { ⌜ (column < 65536) × (row < 65536) ⌝ }
-    ensures { λ _. ⌜ now (placements .exit) ≡ point k column row (now (placements .entry)) ⌝ }
+    ensures { λ _. ⌜ now (points .exit) ≡ point k column row (now (points .entry)) ⌝ }
 {
     let place = 2 * k;
-    placements[place] = column as u16;
-    placements[place + 1] = row as u16;
+    points[place] = column as u16;
+    points[place + 1] = row as u16;
 }
 
 // The walk at the next node, on the same hand.
@@ -88,20 +89,21 @@ fn at_knee(
     sizes: &[u16],
     roles: &[u16],
     widest: &[u16],
-    placements: &mut [u16],
+    points: &mut [u16],
     fork: Fork,
     w: Walk,
 ) -> Walk
-    requires { ⌜ Given (now table) (now sizes) (now roles) (now widest) (now placements) ⌝ }
+    requires { ⌜ Given (now table) (now sizes) (now roles) (now widest) (now points) ⌝ }
     requires { ⌜ Going (now table) (now roles) (now widest) knee w ⌝ }
     requires { ⌜ Forked (now table) (sideOf (w .mirrored)) (w .at) (fork .spine) (fork .hung) (sideOf (fork .«hung_right»)) ⌝ }
-    ensures { λ r. ⌜ Stepped (now (table .entry)) (now (roles .entry)) (now (widest .entry)) knee w (now (placements .entry)) r (now (placements .exit)) ⌝ }
+    ensures { λ r. ⌜ Stepped (now (table .entry)) (now (roles .entry)) (now (widest .entry)) knee w
+        (now (points .entry)) r (now (points .exit)) ⌝ }
 {
-    set_point(placements, w.at, w.edge, w.row);
+    set_point(points, w.at, w.edge, w.row);
     let lowest = most(w.lowest, w.row);
     let row = lowest + 1;
     if is_far(w.right, fork.hung_right) {
-        let below = draw_hung(table, sizes, roles, widest, placements, w, fork.hung, 1, row);
+        let below = draw_hung(table, sizes, roles, widest, points, w, fork.hung, 1, row);
         return onward(w, fork.spine, below, below - 1, 0);
     }
     onward(w, fork.spine, row, lowest, fork.hung)
@@ -113,18 +115,19 @@ fn at_ordinary(
     sizes: &[u16],
     roles: &[u16],
     widest: &[u16],
-    placements: &mut [u16],
+    points: &mut [u16],
     fork: Fork,
     w: Walk,
 ) -> Walk
-    requires { ⌜ Given (now table) (now sizes) (now roles) (now widest) (now placements) ⌝ }
+    requires { ⌜ Given (now table) (now sizes) (now roles) (now widest) (now points) ⌝ }
     requires { ⌜ Going (now table) (now roles) (now widest) ordinary w ⌝ }
     requires { ⌜ Forked (now table) (sideOf (w .mirrored)) (w .at) (fork .spine) (fork .hung) (sideOf (fork .«hung_right»)) ⌝ }
-    ensures { λ r. ⌜ Stepped (now (table .entry)) (now (roles .entry)) (now (widest .entry)) ordinary w (now (placements .entry)) r (now (placements .exit)) ⌝ }
+    ensures { λ r. ⌜ Stepped (now (table .entry)) (now (roles .entry)) (now (widest .entry)) ordinary w
+        (now (points .entry)) r (now (points .exit)) ⌝ }
 {
-    set_point(placements, w.at, inwards(w.right, w.edge, 1), w.row);
+    set_point(points, w.at, inwards(w.right, w.edge, 1), w.row);
     let row = w.row + 1;
-    let below = draw_hung(table, sizes, roles, widest, placements, w, fork.hung, 2, row);
+    let below = draw_hung(table, sizes, roles, widest, points, w, fork.hung, 2, row);
     let lowest = below - 1;
     onward(w, fork.spine, most(row, lowest), lowest, w.pending)
 }
@@ -135,19 +138,20 @@ fn at_switch(
     sizes: &[u16],
     roles: &[u16],
     widest: &[u16],
-    placements: &mut [u16],
+    points: &mut [u16],
     fork: Fork,
     w: Walk,
 ) -> Walk
-    requires { ⌜ Given (now table) (now sizes) (now roles) (now widest) (now placements) ⌝ }
+    requires { ⌜ Given (now table) (now sizes) (now roles) (now widest) (now points) ⌝ }
     requires { ⌜ Going (now table) (now roles) (now widest) switch w ⌝ }
     requires { ⌜ Forked (now table) (sideOf (w .mirrored)) (w .at) (fork .spine) (fork .hung) (sideOf (fork .«hung_right»)) ⌝ }
-    ensures { λ r. ⌜ Stepped (now (table .entry)) (now (roles .entry)) (now (widest .entry)) switch w (now (placements .entry)) r (now (placements .exit)) ⌝ }
+    ensures { λ r. ⌜ Stepped (now (table .entry)) (now (roles .entry)) (now (widest .entry)) switch w
+        (now (points .entry)) r (now (points .exit)) ⌝ }
 {
-    set_point(placements, w.at, inwards(w.right, w.edge, 1), w.row);
+    set_point(points, w.at, inwards(w.right, w.edge, 1), w.row);
     let row = w.row + 1;
-    let foot = draw_hung(table, sizes, roles, widest, placements, w, fork.hung, 1, row);
-    let below = draw_hung(table, sizes, roles, widest, placements, w, w.pending, 1, foot);
+    let foot = draw_hung(table, sizes, roles, widest, points, w, fork.hung, 1, row);
+    let below = draw_hung(table, sizes, roles, widest, points, w, w.pending, 1, foot);
     let lowest = below - 1;
     let edge = inwards(w.right, w.edge, w.widest + 2);
     Walk {
@@ -168,23 +172,24 @@ fn step(
     sizes: &[u16],
     roles: &[u16],
     widest: &[u16],
-    placements: &mut [u16],
+    points: &mut [u16],
     w: Walk,
 ) -> Walk
-    requires { ⌜ Given (now table) (now sizes) (now roles) (now widest) (now placements) ⌝ }
+    requires { ⌜ Given (now table) (now sizes) (now roles) (now widest) (now points) ⌝ }
     requires { ⌜ ((o : LayoutRole) × Going (now table) (now roles) (now widest) o w) ⌝ }
     requires { ⌜ 0 < w .at ⌝ }
-    ensures { λ r. ⌜ ((o : LayoutRole) → Going (now (table .entry)) (now (roles .entry)) (now (widest .entry)) o w → Stepped (now (table .entry)) (now (roles .entry)) (now (widest .entry)) o w (now (placements .entry)) r (now (placements .exit))) ⌝ }
+    ensures { λ r. ⌜ ((o : LayoutRole) → Going (now (table .entry)) (now (roles .entry)) (now (widest .entry)) o w
+        → Stepped (now (table .entry)) (now (roles .entry)) (now (widest .entry)) o w (now (points .entry)) r (now (points .exit))) ⌝ }
 {
     let fork = fork_at(table, sizes, w.at, w.mirrored);
     let role = role_at(roles, w.at);
     if is_knee(role) {
-        return at_knee(table, sizes, roles, widest, placements, fork, w);
+        return at_knee(table, sizes, roles, widest, points, fork, w);
     }
     if is_switch(role) {
-        return at_switch(table, sizes, roles, widest, placements, fork, w);
+        return at_switch(table, sizes, roles, widest, points, fork, w);
     }
-    at_ordinary(table, sizes, roles, widest, placements, fork, w)
+    at_ordinary(table, sizes, roles, widest, points, fork, w)
 }
 
 // From the first node to the end of a spine. Step 8: what is still pending goes below all. Answers the first row below the drawing.
@@ -193,16 +198,16 @@ fn draw_spine(
     sizes: &[u16],
     roles: &[u16],
     widest: &[u16],
-    placements: &mut [u16],
+    points: &mut [u16],
     root: usize,
     edge: usize,
     top: usize,
     mirrored: bool,
 ) -> usize
-    requires { ⌜ Given (now table) (now sizes) (now roles) (now widest) (now placements) ⌝ }
+    requires { ⌜ Given (now table) (now sizes) (now roles) (now widest) (now points) ⌝ }
     requires { ⌜ Hanging (now table) (now roles) (now widest) (sideOf mirrored) root edge 0 top ⌝ }
     requires { ⌜ 0 < root ⌝ }
-    ensures { λ r. ⌜ Hung (now (table .entry)) (sideOf mirrored) root edge top (now (placements .entry)) r (now (placements .exit)) ⌝ }
+    ensures { λ r. ⌜ Hung (now (table .entry)) (sideOf mirrored) root edge top (now (points .entry)) r (now (points .exit)) ⌝ }
 {
     let mut w = Walk {
         at: root,
@@ -215,10 +220,10 @@ fn draw_spine(
         mirrored,
     };
     while w.at != 0 {
-        w = step(table, sizes, roles, widest, placements, w);
+        w = step(table, sizes, roles, widest, points, w);
     }
     let row = w.lowest + 1;
-    draw_hung(table, sizes, roles, widest, placements, w, w.pending, 1, row)
+    draw_hung(table, sizes, roles, widest, points, w, w.pending, 1, row)
 }
 
 // A drawing on the left side, by these steps. Answers the first row below it.
@@ -227,27 +232,17 @@ fn draw_left(
     sizes: &[u16],
     roles: &[u16],
     widest: &[u16],
-    placements: &mut [u16],
+    points: &mut [u16],
     root: usize,
     edge: usize,
     top: usize,
 ) -> usize
-    requires { ⌜ Given (now table) (now sizes) (now roles) (now widest) (now placements) ⌝ }
+    requires { ⌜ Given (now table) (now sizes) (now roles) (now widest) (now points) ⌝ }
     requires { ⌜ Hanging (now table) (now roles) (now widest) left root edge 0 top ⌝ }
     requires { ⌜ 0 < root ⌝ }
-    ensures { λ r. ⌜ Hung (now (table .entry)) left root edge top (now (placements .entry)) r (now (placements .exit)) ⌝ }
+    ensures { λ r. ⌜ Hung (now (table .entry)) left root edge top (now (points .entry)) r (now (points .exit)) ⌝ }
 {
-    draw_spine(
-        table,
-        sizes,
-        roles,
-        widest,
-        placements,
-        root,
-        edge,
-        top,
-        false,
-    )
+    draw_spine(table, sizes, roles, widest, points, root, edge, top, false)
 }
 
 // A drawing on the right side: the mirror image, flipped left to right.
@@ -256,17 +251,17 @@ fn draw_right(
     sizes: &[u16],
     roles: &[u16],
     widest: &[u16],
-    placements: &mut [u16],
+    points: &mut [u16],
     root: usize,
     edge: usize,
     top: usize,
 ) -> usize
-    requires { ⌜ Given (now table) (now sizes) (now roles) (now widest) (now placements) ⌝ }
+    requires { ⌜ Given (now table) (now sizes) (now roles) (now widest) (now points) ⌝ }
     requires { ⌜ Hanging (now table) (now roles) (now widest) right root edge 0 top ⌝ }
     requires { ⌜ 0 < root ⌝ }
-    ensures { λ r. ⌜ Hung (now (table .entry)) right root edge top (now (placements .entry)) r (now (placements .exit)) ⌝ }
+    ensures { λ r. ⌜ Hung (now (table .entry)) right root edge top (now (points .entry)) r (now (points .exit)) ⌝ }
 {
-    draw_spine(table, sizes, roles, widest, placements, root, edge, top, true)
+    draw_spine(table, sizes, roles, widest, points, root, edge, top, true)
 }
 
 // A subtree, 0 for none, on the side of the walk's hand: its edge is at that hand's column, its top at the row. Answers the first row below it.
@@ -275,24 +270,25 @@ fn draw_hung(
     sizes: &[u16],
     roles: &[u16],
     widest: &[u16],
-    placements: &mut [u16],
+    points: &mut [u16],
     w: Walk,
     child: usize,
     column: usize,
     top: usize,
 ) -> usize
-    requires { ⌜ Given (now table) (now sizes) (now roles) (now widest) (now placements) ⌝ }
+    requires { ⌜ Given (now table) (now sizes) (now roles) (now widest) (now points) ⌝ }
     requires { ⌜ Hanging (now table) (now roles) (now widest) (handAt w) child (w .edge) column top ⌝ }
-    ensures { λ r. ⌜ Hung (now (table .entry)) (handAt w) child (inwardsOf (handAt w) (w .edge) column) top (now (placements .entry)) r (now (placements .exit)) ⌝ }
+    ensures { λ r. ⌜ Hung (now (table .entry)) (handAt w) child (inwardsOf (handAt w) (w .edge) column) top
+        (now (points .entry)) r (now (points .exit)) ⌝ }
 {
     if child == 0 {
         return top;
     }
     let edge = inwards(w.right, w.edge, column);
     if w.right {
-        draw_right(table, sizes, roles, widest, placements, child, edge, top)
+        draw_right(table, sizes, roles, widest, points, child, edge, top)
     } else {
-        draw_left(table, sizes, roles, widest, placements, child, edge, top)
+        draw_left(table, sizes, roles, widest, points, child, edge, top)
     }
 }
 
@@ -302,12 +298,12 @@ pub fn draw_tree(
     sizes: &[u16],
     roles: &[u16],
     widest: &[u16],
-    placements: &mut [u16],
+    points: &mut [u16],
     root: usize,
 ) -> usize
-    requires { ⌜ Given (now table) (now sizes) (now roles) (now widest) (now placements) ⌝ }
+    requires { ⌜ Given (now table) (now sizes) (now roles) (now widest) (now points) ⌝ }
     requires { ⌜ Hanging (now table) (now roles) (now widest) left root 0 0 0 ⌝ }
-    ensures { λ r. ⌜ Hung (now (table .entry)) left root 0 0 (now (placements .entry)) r (now (placements .exit)) ⌝ }
+    ensures { λ r. ⌜ Hung (now (table .entry)) left root 0 0 (now (points .entry)) r (now (points .exit)) ⌝ }
 {
     let w = Walk {
         at: 0,
@@ -319,5 +315,5 @@ pub fn draw_tree(
         widest: 0,
         mirrored: false,
     };
-    draw_hung(table, sizes, roles, widest, placements, w, root, 0, 0)
+    draw_hung(table, sizes, roles, widest, points, w, root, 0, 0)
 }

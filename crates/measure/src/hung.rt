@@ -27,7 +27,8 @@ fn measure_hung(
     requires { ⌜ Named (now table) child ⌝ }
     requires { ⌜ Sized (now table) (now sizes) ⌝ }
     requires { ⌜ (length (now roles) ≡ 4097) × (length (now widest) ≡ 4097) ⌝ }
-    ensures { λ r. ⌜ Measured (now (table .entry)) (sideOf mirrored) child (now (roles .entry)) (now (widest .entry)) (now (roles .exit)) (now (widest .exit)) r ⌝ }
+    ensures { λ r. ⌜ Measured (now (table .entry)) (sideOf mirrored) child
+        (now (roles .entry)) (now (widest .entry)) (now (roles .exit)) (now (widest .exit)) r ⌝ }
 {
     if child == 0 {
         return 0;
@@ -50,7 +51,8 @@ pub fn measure_left(
     requires { ⌜ Chained (now table) root ⌝ }
     requires { ⌜ Sized (now table) (now sizes) ⌝ }
     requires { ⌜ (length (now roles) ≡ 4097) × (length (now widest) ≡ 4097) ⌝ }
-    ensures { λ r. ⌜ Measured (now (table .entry)) left root (now (roles .entry)) (now (widest .entry)) (now (roles .exit)) (now (widest .exit)) r ⌝ }
+    ensures { λ r. ⌜ Measured (now (table .entry)) left root
+        (now (roles .entry)) (now (widest .entry)) (now (roles .exit)) (now (widest .exit)) r ⌝ }
 {
     measure_spine(table, sizes, roles, widest, root, false)
 }
@@ -67,7 +69,8 @@ fn measure_right(
     requires { ⌜ Chained (now table) root ⌝ }
     requires { ⌜ Sized (now table) (now sizes) ⌝ }
     requires { ⌜ (length (now roles) ≡ 4097) × (length (now widest) ≡ 4097) ⌝ }
-    ensures { λ r. ⌜ Measured (now (table .entry)) right root (now (roles .entry)) (now (widest .entry)) (now (roles .exit)) (now (widest .exit)) r ⌝ }
+    ensures { λ r. ⌜ Measured (now (table .entry)) right root
+        (now (roles .entry)) (now (widest .entry)) (now (roles .exit)) (now (widest .exit)) r ⌝ }
 {
     measure_spine(table, sizes, roles, widest, root, true)
 }
@@ -85,7 +88,8 @@ fn measure_spine(
     requires { ⌜ Chained (now table) root ⌝ }
     requires { ⌜ Sized (now table) (now sizes) ⌝ }
     requires { ⌜ (length (now roles) ≡ 4097) × (length (now widest) ≡ 4097) ⌝ }
-    ensures { λ r. ⌜ Measured (now (table .entry)) (sideOf mirrored) root (now (roles .entry)) (now (widest .entry)) (now (roles .exit)) (now (widest .exit)) r ⌝ }
+    ensures { λ r. ⌜ Measured (now (table .entry)) (sideOf mirrored) root
+        (now (roles .entry)) (now (widest .entry)) (now (roles .exit)) (now (widest .exit)) r ⌝ }
 {
     choose_roles(table, sizes, roles, root, mirrored);
     let mut survey = Survey {

@@ -75,7 +75,8 @@ pub fn prepare(
     requires { ⌜ Chained (now table) root ⌝ }
     requires { ⌜ Sized (now table) (now sizes) ⌝ }
     requires { ⌜ (length (now roles) ≡ 4097) × (length (now widest) ≡ 4097) ⌝ }
-    ensures { λ r. ⌜ Measured (now (table .entry)) leftSide root (now (roles .entry)) (now (widest .entry)) (now (roles .exit)) (now (widest .exit)) r ⌝ }
+    ensures { λ r. ⌜ Measured (now (table .entry)) leftSide root
+        (now (roles .entry)) (now (widest .entry)) (now (roles .exit)) (now (widest .exit)) r ⌝ }
 {
     measure_left(table, sizes, roles, widest, root)
 }

@@ -162,7 +162,8 @@ pub fn choose_roles(table: &[u8], sizes: &[u16], roles: &mut [u16], root: usize,
     requires { ⌜ Chained (now table) root ⌝ }
     requires { ⌜ Sized (now table) (now sizes) ⌝ }
     requires { ⌜ length (now roles) ≡ 4097 ⌝ }
-    ensures { λ _. ⌜ now (roles .exit) ≡ withRoles (opposite (sideOf mirrored)) switch (spineOn (sideOf mirrored) (treeAt (now (table .entry)) root)) (now (roles .entry)) ⌝ }
+    ensures { λ _. ⌜ now (roles .exit) ≡ withRoles (opposite (sideOf mirrored)) switch
+        (spineOn (sideOf mirrored) (treeAt (now (table .entry)) root)) (now (roles .entry)) ⌝ }
 {
     let mut role = first_switch(mirrored);
     let mut at = root;

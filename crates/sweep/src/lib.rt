@@ -23,7 +23,8 @@ ghost use Rattle.sort.specs.inner.Order.{Pairs, Ascending};
 ghost use Rattle.sweep.specs.inner.Line.{last, Onward};
 ghost use Rattle.sweep.specs.inner.Meetings.{WorstFrom, Worst};
 
-// The worst meeting of line i with a line before it. Lines are sorted by their ends: where one ends at the start of line i or before, so do all before that.
+// The worst meeting of line i with a line before it. Lines are sorted by their ends:
+// where one ends at the start of line i or before, so do all before that.
 fn worst_before(lines: &[u64], i: usize) -> Meeting
     requires { ⌜ i < length (now lines) ⌝ }
     requires { ⌜ Onward (length (now lines)) (now lines) ⌝ }
@@ -79,7 +80,8 @@ pub fn worst_meeting(lines: &mut [u64], scratch: &mut [u64]) -> Meeting
 // Do two lines end at one point, of lines sorted by their ends?
 pub fn same_end(lines: &[u64]) -> bool
     requires { ⌜ Ascending last (length (now lines)) (now lines) ⌝ }
-    ensures { λ r. ⌜ T r ↔ Pairs (length (now (lines .entry))) (λ i j. last (getD (now (lines .entry)) i 0) ≡ last (getD (now (lines .entry)) j 0)) ⌝ }
+    ensures { λ r. ⌜ T r ↔ Pairs (length (now (lines .entry)))
+        (λ i j. last (getD (now (lines .entry)) i 0) ≡ last (getD (now (lines .entry)) j 0)) ⌝ }
 {
     let mut i = 1;
     while i < lines.len() {

@@ -44,7 +44,8 @@ fn put_nodes(table: &[u8], placements: &[u16], nodes: u16, out: &mut [u8], at: u
     requires { ⌜ refusalOf (now table) (length (now placements)) ≡ 0 ⌝ }
     requires { ⌜ nodes ≡ length (chain (now table)) ⌝ }
     requires { ⌜ at + 24 * nodes ≤ length (now out) ⌝ }
-    ensures { λ r. ⌜ Put (nodeLines (now (table .entry)) (now (placements .entry)) (chain (now (table .entry)))) (now (out .entry)) at r (now (out .exit)) ⌝ }
+    ensures { λ r. ⌜ Put (nodeLines (now (table .entry)) (now (placements .entry)) (chain (now (table .entry))))
+        (now (out .entry)) at r (now (out .exit)) ⌝ }
     ensures { λ r. ⌜ r ≤ length (now (out .entry)) ⌝ }
 {
     let mut end = at;
@@ -63,7 +64,8 @@ pub fn put_plan(table: &[u8], placements: &[u16], plan: Plan, out: &mut [u8]) ->
     requires { ⌜ refusalOf (now table) (length (now placements)) ≡ 0 ⌝ }
     requires { ⌜ plan .nodes ≡ length (chain (now table)) ⌝ }
     requires { ⌜ 98328 ≤ length (now out) ⌝ }
-    ensures { λ r. ⌜ Put (planLine plan ++ nodeLines (now (table .entry)) (now (placements .entry)) (chain (now (table .entry)))) (now (out .entry)) 0 r (now (out .exit)) ⌝ }
+    ensures { λ r. ⌜ Put (planLine plan ++ nodeLines (now (table .entry)) (now (placements .entry)) (chain (now (table .entry))))
+        (now (out .entry)) 0 r (now (out .exit)) ⌝ }
     ensures { λ r. ⌜ r ≤ length (now (out .entry)) ⌝ }
 {
     let word = put_word(b"plan", out, 0);

@@ -12,10 +12,10 @@ use Rattle.drawing.proofs.place.+at_knee+at_ordinary+at_switch+draw_hun
 use Rattle.drawing.proofs.place.+at_knee+at_ordinary+at_switch+draw_hung+draw_left+draw_right+draw_spine+step.Proof.Measures.{draw-spine-claims, draw-spine-at}
 
 abbrev Inv-loop : lts.InvT-loop
-Inv-loop table sizes roles widest placements₀ root edge top mirrored w₀ placements w = SoFar table roles widest placements₀ w₀ placements w
+Inv-loop table sizes roles widest points₀ root edge top mirrored w₀ points w = SoFar table roles widest points₀ w₀ points w
 
 abbrev μ-loop : lts.MeasureT-loop
-μ-loop table sizes roles widest placements₀ root edge top mirrored w₀ placements w = size (treeAt table (w .at))
+μ-loop table sizes roles widest points₀ root edge top mirrored w₀ points w = size (treeAt table (w .at))
 
 module _ (t : ℕ) where
   mul-t12 : lts.Need-mul-t12 (draw-spine-claims t) (draw-spine-at t) reads.Post Inv-loop μ-loop
