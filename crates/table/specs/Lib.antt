@@ -4,5 +4,6 @@ pub mod Lists
 pub mod Table
 pub mod Tree
 pub mod Refusal
+pub mod OffChain
 pub mod Reading
 pub mod Steps
