@@ -3,6 +3,7 @@ pub mod Lists
 pub mod Chain
 pub mod Causes
 pub mod Accepted
+pub mod OffChain
 pub mod Form
 pub mod Walking
 pub mod Scan

@@ -1,6 +1,7 @@
--- What a table says (document 01, "The rack table"): words and records, the chain, the tree, the refusals. Read in this order.
+-- What a table says (document 01, "The rack table"): words and records, the chain, the tree, the refusals, and what changes no answer. Read in this order.
 pub mod Lists
 pub mod Table
 pub mod Tree
 pub mod Refusal
+pub mod OffChain
 pub mod inner

@@ -1,0 +1,118 @@
+-- "The left, right and tag of a record off the chain change no answer": two tables that differ there only have one chain, one refusal and, if accepted, one tree.
+-- Rests on Lists, Chain, Causes and Accepted.
+use mathlib.Core.Path.{_≡_, refl, sym, ap, ap₂}
+use mathlib.Core.Logic.{_⊎_, inl, inr}
+use mathlib.Core.Bool.{Bool, true, false, cond, _||_}
+use mathlib.Core.List.{List, [], _∷_}
+use Prim.Native.Nat.{ℕ, zero, suc}
+use native.Mathlib.Omega.{arith}
+use lib.Dec.{T}
+use Rattle.table.specs.Lists.{any, member}
+use Rattle.table.specs.Table.{Side, left, right, records, nextOf, leftOf, rightOf, linkOf, tagOf, rootOf, follow, chain, Chained}
+use Rattle.table.specs.Tree.{node, descend, treeAt, tree}
+use Rattle.table.specs.Refusal.{badLength, badHead, beyond, badChain, stray, badLinks, isEmpty, links, badTree, shortPlacements, fault, refusal}
+use Rattle.table.specs.OffChain.{OffChain}
+use Rattle.table.proofs.Lists.{T-true, member-cons}
+use Rattle.table.proofs.Causes.{sound-links}
+use Rattle.table.proofs.Accepted.{fault-none, parented}
+
+-- What agrees at each record of a list agrees along it.
+follow-same : (t u : List ℕ) (n k : ℕ) → ((x : ℕ) → T (member x (follow n t k)) → nextOf u x ≡ nextOf t x) → follow n u k ≡ follow n t k
+unfolding follow
+follow-same t u zero k e = refl
+follow-same t u (suc n) zero e = refl
+follow-same t u (suc n) (suc k) e =
+    let m = member-cons (suc k) (suc k) (follow n t (nextOf t (suc k))) .1 (inl refl) in
+    rw (e (suc k) m) (ap (λ (l : List ℕ). suc k ∷ l) (follow-same t u n (nextOf t (suc k)) (λ x m. e x (member-cons x (suc k) (follow n t (nextOf t (suc k))) .1 (inr m)))))
+
+any-same : (f g : ℕ → Bool) (ks : List ℕ) → ((k : ℕ) → T (member k ks) → f k ≡ g k) → any f ks ≡ any g ks
+unfolding any
+any-same f g [] e = refl
+any-same f g (n ∷ ns) e = ap₂ _||_ (e n (member-cons n n ns .1 (inl refl))) (any-same f g ns (λ k m. e k (member-cons k n ns .1 (inr m))))
+
+links-same : (t u ks : List ℕ) → ((k : ℕ) (s : Side) → T (member k ks) → linkOf u s k ≡ linkOf t s k) → links u ks ≡ links t ks
+unfolding links
+links-same t u [] e = refl
+links-same t u (n ∷ ns) e =
+    let m = member-cons n n ns .1 (inl refl) in
+    rw (e n left m, e n right m, links-same t u ns (λ k s m. e k s (member-cons k n ns .1 (inr m))))
+
+-- A later cause is asked only without the one before.
+cond-same : {x y : ℕ} (b : Bool) (n : ℕ) → (b ≡ false → x ≡ y) → cond b n x ≡ cond b n y
+cond-same true n e = refl
+cond-same false n e = e refl
+
+module _ {t u : List ℕ} (h : OffChain t u) where
+  pub chain-same : chain u ≡ chain t
+  unfolding chain
+  chain-same = rw (h .long, h .head 0 (omega arith)) (follow-same t u (records t) (nextOf t 0) (λ k m. h .chained k 0 m (omega arith)))
+
+  pub link-same : (k : ℕ) (s : Side) → Chained t k → linkOf u s k ≡ linkOf t s k
+  link-same k left m = h .chained k 1 m (omega arith)
+  link-same k right m = h .chained k 2 m (omega arith)
+
+  pub tag-same : (k : ℕ) → Chained t k → tagOf u k ≡ tagOf t k
+  tag-same k m = h .chained k 3 m (omega arith)
+
+  pub root-same : rootOf u ≡ rootOf t
+  root-same = h .head 1 (omega arith)
+
+  next-same : nextOf u 0 ≡ nextOf t 0
+  next-same = h .head 0 (omega arith)
+
+  all-links : links u (chain t) ≡ links t (chain t)
+  all-links = links-same t u (chain t) link-same
+
+  -- Without 4, the trees at chained records.
+  descend-same : badLinks t ≡ false → (n k : ℕ) → (k ≡ 0) ⊎ Chained t k → descend n u k ≡ descend n t k
+  unfolding descend
+  descend-same e zero k c = refl
+  descend-same e (suc n) zero c = refl
+  descend-same e (suc n) (suc k) (inl z) = absurd (omega arith)
+  descend-same e (suc n) (suc k) (inr c) =
+      rw (link-same (suc k) left c, link-same (suc k) right c)
+      (ap₂ (node (suc k)) (descend-same e n (leftOf t (suc k)) (sound-links t e (suc k) left c)) (descend-same e n (rightOf t (suc k)) (sound-links t e (suc k) right c)))
+
+  at-same : badLinks t ≡ false → (k : ℕ) → (k ≡ 0) ⊎ Chained t k → treeAt u k ≡ treeAt t k
+  at-same e k c = rw (h .long) (descend-same e (records t) k c)
+
+  -- The causes 1 to 5, the last without 4.
+  links-bad : badLinks u ≡ badLinks t
+  unfolding badLinks stray beyond
+  links-bad = rw (chain-same, h .long) (any-same _ _ (chain t) (λ k m. rw (link-same k left m, link-same k right m)))
+
+  tree-bad : badLinks t ≡ false → badTree u ≡ badTree t
+  unfolding badTree isEmpty
+  tree-bad e = go (member (rootOf t) (chain t)) refl
+    where
+      go : (b : Bool) → member (rootOf t) (chain t) ≡ b → badTree u ≡ badTree t
+      go true m = rw (chain-same, all-links, next-same, root-same, at-same e (rootOf t) (inr (T-true (member (rootOf t) (chain t)) .1 m)))
+      go false m = rw (chain-same, next-same, root-same, m)
+
+  pub fault-same : fault u ≡ fault t
+  unfolding fault badLength badHead badChain beyond
+  fault-same =
+      rw (
+        h .long,
+        h .head 2 (omega arith),
+        h .head 3 (omega arith),
+        chain-same,
+        any-same (beyond u) (beyond t) (chain t) (λ k m. rw (h .long)),
+        links-bad,
+        cond-same (badLinks t) 4 (λ e. ap (λ (b : Bool). cond b 5 0) (tree-bad e)),
+      )
+
+  pub refusal-same : (places : ℕ) → refusal u places ≡ refusal t places
+  unfolding refusal shortPlacements
+  refusal-same places = rw (fault-same, h .long)
+
+  -- An accepted table: the trees at chained records, and the whole tree.
+  pub tree-at-same : fault t ≡ 0 → (k : ℕ) → (k ≡ 0) ⊎ Chained t k → treeAt u k ≡ treeAt t k
+  tree-at-same ok = at-same (fault-none t ok .3)
+
+  pub tree-same : fault t ≡ 0 → tree u ≡ tree t
+  tree-same ok = rw root-same (tree-at-same ok (rootOf t) (parented t ok .root))
+
+  -- Off the one chain is off the other.
+  pub off-chain-sym : OffChain u t
+  off-chain-sym = record { long = sym (h .long); head = λ j l. sym (h .head j l); chained = λ k j m l. sym (h .chained k j (rw chain-same at m) l) }

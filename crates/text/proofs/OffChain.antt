@@ -1,0 +1,30 @@
+-- "The left, right and tag of a record off the chain change no answer", of the text: `off-chain-text`. Rests on that law of tables and of the drawer.
+use mathlib.Core.Path.{_≡_, refl, ap}
+use mathlib.Core.Logic.{inl, inr}
+use mathlib.Core.Bool.{true, false}
+use mathlib.Core.List.{List, [], _∷_, _++_}
+use Prim.Native.Nat.{ℕ}
+use lib.Dec.{T, eqb}
+use Rattle.table.specs.Lists.{member}
+use Rattle.table.specs.Table.{tagOf, chain}
+use Rattle.table.specs.OffChain.{OffChain}
+use Rattle.table.proofs.Lists.{member-cons}
+use Rattle.table.proofs.OffChain.{chain-same, tag-same}
+use Rattle.drawing.specs.declared.Drawn.{Drawn}
+use Rattle.drawing.specs.Answer.{drawnOf, placedIn}
+use Rattle.drawing.proofs.OffChain.{off-chain-drawn}
+use Rattle.text.specs.Text.{planLine, nodeLine, nodeLines, refusedLine, textFrom, lent, textOf}
+
+lines-same : (t u p ks : List ℕ) → ((k : ℕ) → T (member k ks) → tagOf u k ≡ tagOf t k) → nodeLines u p ks ≡ nodeLines t p ks
+unfolding nodeLines nodeLine
+lines-same t u p [] e = refl
+lines-same t u p (n ∷ ns) e = rw (e n (member-cons n n ns .1 (inl refl)), lines-same t u p ns (λ k m. e k (member-cons k n ns .1 (inr m))))
+
+from-same : {t u : List ℕ} → OffChain t u → (d : Drawn) (p : List ℕ) → textFrom u d p ≡ textFrom t d p
+unfolding textFrom
+from-same {t} {u} h d p =
+    ap (λ (l : List ℕ). elim (eqb (d .refusal) 0) [ true ↦ planLine (d .plan) ++ l | false ↦ refusedLine (d .refusal) ]) (rw (chain-same h) (lines-same t u p (chain t) (tag-same h)))
+
+pub off-chain-text : (t u : List ℕ) → OffChain t u → textOf u ≡ textOf t
+unfolding textOf
+off-chain-text t u h = let d = off-chain-drawn t u lent h in rw (d .0, d .1) (from-same h (drawnOf t lent) (placedIn t lent))
