@@ -1,4 +1,4 @@
--- Laws of the drawer's answer, and of placing. The answer: Answered, Whole. Storing: StoredPoints, StoredOrder. Along a spine: Shapes, Columns, Onward, Walking,
+-- Laws of the drawer's answer, and of placing. The answer: Answered, OffChain, Elsewhere, Whole. Storing: StoredPoints, StoredOrder. Along a spine: Shapes, Columns, Onward, Walking,
 -- Starting.
 pub mod Answered
 pub mod OffChain

@@ -1,4 +1,4 @@
--- THE THEOREM: the drawing of every tree keeps what document 01's demand 3 promises of it (`promise`).
+-- THE THEOREM: the drawing of every tree keeps what demand 3 (docs/GROUNDS.md) promises of it (`promise`).
 use mathlib.Core.Path.{_≡_, ap}
 use Prim.Native.Nat.{ℕ, suc, _+_, _*_, _^_, _≤_, _<_}
 use native.Mathlib.Omega.{arith}

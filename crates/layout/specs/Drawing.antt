@@ -60,7 +60,8 @@ place W H r p (part switch k s D ∷ ps) =
 unfoldable pub steps : (Tree → Layout) → Tree → Layout
 steps d t = let ps : List Part = map (hang d) (roles (spine t)) in place (widest ps) 0 0 0 ps .drawn
 
--- Step 3: "drawn by these same steps"; n bounds the size of the tree, which falls from a tree to its hung subtrees
+-- Step 3: "drawn by these same steps"; n bounds the size of the tree, which falls from a tree to its hung subtrees. The bound is never felt: `draw t` is
+-- `steps draw t`, for every tree (`draw-law`, proofs/Whole).
 unfoldable pub drawing : ℕ → Tree → Layout
 drawing zero t = blank
 drawing (suc n) t = steps (drawing n) t

@@ -4,7 +4,7 @@ use Rattle.segment.specs.declared.Point.{Point}
 use Rattle.segment.specs.Segment.{at}
 use Rattle.table.specs.Tree.{Tree, none, node}
 
--- "A plan gives each box a column and a row": columns count from the edge that holds the drawing, rows from its top.
+-- "A plan gives each box a column .. and a row": columns count from the edge that holds the drawing, rows from its top.
 pub data Layout : Type 0 where
   blank : Layout
   placed : ℕ → Point → Layout → Layout → Layout
@@ -19,12 +19,13 @@ unfoldable pub height : Layout → ℕ
 height blank = 0
 height (placed k P a b) = max (suc (P .row)) (max (height a) (height b))
 
--- The drawing with its left edge at column e and its top row at row t.
+-- The drawing with its left edge at column e and its top row at row t. Sums only.
 unfoldable pub shift : ℕ → ℕ → Layout → Layout
 shift e t blank = blank
 shift e t (placed k P a b) = placed k (at (e + P .column) (t + P .row)) (shift e t a) (shift e t b)
 
--- "flipped left to right" (step 3), "left and right exchanged and column k read as" e − k (step 7)
+-- "flipped left to right" (step 3), "left and right exchanged and column k read as" e − k (step 7). The difference never cuts off: what the steps flip at W + 2
+-- is at most W + 3 wide (`Knee`, its field `wide`, and `along`, proofs/Steps and Along).
 unfoldable pub flip : ℕ → Layout → Layout
 flip e blank = blank
 flip e (placed k P a b) = placed k (at (e - P .column) (P .row)) (flip e b) (flip e a)

@@ -9,7 +9,8 @@ use Rattle.segment.specs.declared.Point.{Point}
 abbrev pub at : ℕ → ℕ → Point
 at c r = record { column = c; row = r }
 
--- "whole numbers q .. and s .. from 0 to q, with (q − s)·P + s·Q = ..": (x, y) is that sum, q times a point of the line from P to Q
+-- "whole numbers q .. and s .. from 0 to q, with (q − s)·P + s·Q = ..": (x, y) is that sum, q times a point of the line from P to Q; s is at most q,
+-- so that q − s cuts nothing off
 pub record On (P Q : Point) (q x y : ℕ) : Type 0 where
   pub s : ℕ
   pub s≤q : s ≤ q

@@ -44,8 +44,8 @@ follow zero t k = []
 follow (suc n) t zero = []
 follow (suc n) t (suc k) = suc k ∷ follow n t (nextOf t (suc k))
 
--- The chain, "starting at the head, which is no box and not on the chain". It is followed for as many steps as there are records: a chain of so many records
--- goes beyond the table or meets one twice, and is refused with 3.
+-- The chain: "Starting at the head, which is no box and not on the chain". It is followed for as many steps as there are records: a chain of so many records
+-- goes beyond the table or meets one twice, and is refused with 3. In an accepted table more steps add nothing (`chain-ended`, proofs/Accepted).
 unfoldable pub chain : List ℕ → List ℕ
 chain t = follow (records t) t (nextOf t 0)
 

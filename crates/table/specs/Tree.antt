@@ -24,7 +24,8 @@ descend zero t k = none
 descend (suc n) t zero = none
 descend (suc n) t (suc k) = node (suc k) (descend n t (leftOf t (suc k))) (descend n t (rightOf t (suc k)))
 
--- The tree at record k. A node is at most as many levels down as there are records.
+-- The tree at record k. A node is at most as many levels down as there are records: in an accepted table the tree at a chained record is its node over the
+-- trees at its links, with nothing cut off (`tree-unfolds`, proofs/Accepted).
 abbrev pub treeAt : List ℕ → ℕ → Tree
 treeAt t k = descend (records t) t k
 

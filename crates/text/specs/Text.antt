@@ -14,7 +14,7 @@ unfoldable pub digits : ℕ → ℕ → List ℕ
 digits zero n = []
 digits (suc m) n = elim (ltb n 10) [ true ↦ (48 + n) ∷ [] | false ↦ digits m (n / 10) ++ ((48 + n % 10) ∷ []) ]
 
--- A number n has no more than n + 1 digits.
+-- A number n has no more than n + 1 digits: none is cut off (`decimal-more`, proofs/Decimal).
 unfoldable pub decimal : ℕ → List ℕ
 decimal n = digits (suc n) n
 
@@ -23,7 +23,7 @@ unfoldable pub fields : List ℕ → List ℕ
 fields [] = 10 ∷ []
 fields (n ∷ ns) = 32 ∷ (decimal n ++ fields ns)
 
--- "It prints `plan`, then boxes, width and height"
+-- "It prints `plan`, then boxes, width and height": 112 is p, 108 l, 97 a, 110 n
 unfoldable pub planLine : Plan → List ℕ
 planLine d = 112 ∷ 108 ∷ 97 ∷ 110 ∷ fields (d .nodes ∷ d .width ∷ d .height ∷ [])
 
@@ -36,7 +36,7 @@ unfoldable pub nodeLines : List ℕ → List ℕ → List ℕ → List ℕ
 nodeLines t p [] = []
 nodeLines t p (k ∷ ks) = nodeLine t p k ++ nodeLines t p ks
 
--- "A refusal prints one line only, as `refused 3`"
+-- "A refusal prints one line only, as `refused 3`": 114 is r, 101 e, 102 f, 117 u, 115 s, 100 d
 unfoldable pub refusedLine : ℕ → List ℕ
 refusedLine n = 114 ∷ 101 ∷ 102 ∷ 117 ∷ 115 ∷ 101 ∷ 100 ∷ fields (n ∷ [])
 

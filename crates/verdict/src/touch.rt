@@ -1,4 +1,6 @@
 // Conditions 21 to 23 over lines as numbers: two that end at one point, one that does not go down, two that share a point which does not end both.
+// No node is held against a line: each node has a line that ends at it, so that a node on a line that it does not end shows as two lines that clash
+// (`touching↔clash`, proofs/Clashes; `clashing`, proofs/Places).
 use sort::sort;
 use sweep::line::HALF;
 use sweep::line::end;

@@ -8,7 +8,8 @@ unfoldable pub greatest : ℕ → ℕ → ℕ
 greatest n zero = 0
 greatest n (suc m) = elim (leb (2 ^ suc m) n) [ true ↦ suc m | false ↦ greatest n m ]
 
--- "floor(log2 n) is the greatest whole k with 2 to the power k at most n"; no such k is above n
+-- "floor(log2 n) is the greatest whole k with 2 to the power k at most n"; no such k is above n (`floor-bounds` and
+-- `floor-unique`, proofs/FloorLog2: it is the one k with 2 to the power k at most n and 2 to the power k + 1 above it)
 unfoldable pub floorLog2 : ℕ → ℕ
 floorLog2 n = greatest n n
 
