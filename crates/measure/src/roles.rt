@@ -15,7 +15,7 @@ ghost use Rattle.measure.specs.inner.Forked.{sideOf};
 ghost use Rattle.measure.specs.inner.Prepared.{codeOf};
 ghost use Rattle.measure.specs.inner.Roles.{handOf, roleOf, isSwitch, Runs, Follows, withRoles};
 
-// Document 01's six roles; specs/Roles gives the hand of each, and what it is on that hand.
+// Document 01's six roles; specs/inner/Roles gives the hand of each, and what it is on that hand.
 pub enum Role {
     LeftKnee,
     OrdinaryLeft,

@@ -1,4 +1,4 @@
-// Along which axis lines are sorted: by rows, or by columns where they overlap less in these (specs/Arranged).
+// Along which axis lines are sorted: by rows, or by columns where they overlap less in these (specs/inner/Arranged).
 use crate::line::HALF;
 use crate::line::end;
 use crate::line::number;

@@ -1,4 +1,4 @@
-// A line as a number: the number of its end above that of its start, each counted row by row (specs/Line).
+// A line as a number: the number of its end above that of its start, each counted row by row (specs/inner/Line).
 use segment::Point;
 ghost use mathlib.Core.Path.{_≡_};
 ghost use Prim.Native.Nat.{_<_};

@@ -1,4 +1,4 @@
-// How two lines meet (specs/Meetings).
+// How two lines meet (specs/inner/Meetings).
 use segment::Point;
 use segment::clash;
 use segment::least;

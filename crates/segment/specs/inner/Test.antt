@@ -1,4 +1,4 @@
--- Tests that the code makes, proved to agree with the meaning in Segment.antt (proofs/SharedPoint.antt), and points flipped and numbered. Not to be believed.
+-- Tests that the code makes, proved to agree with the meaning in Segment.antt (proofs/SharedPoint.antt), and points transposed and numbered.
 use mathlib.Core.Bool.{Bool, _&&_, _||_}
 use Prim.Native.Nat.{ℕ, _+_, _*_, min, max}
 use lib.Dec.{leb}
