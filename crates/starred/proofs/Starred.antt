@@ -4,6 +4,7 @@ use mathlib.Core.Bool.{Bool, true, false, _&&_}
 use mathlib.Core.List.{List, [], _∷_}
 use Prim.Native.Nat.{ℕ}
 use lib.Dec.{T, eqb, eqb→eq}
+use mir.Facts.{and-yes}
 use Rattle.table.specs.Lists.{any, member, repeats, count}
 use Rattle.table.specs.Table.{word, follow, chain}
 use Rattle.table.specs.Tree.{size, nodes, descend}
@@ -22,11 +23,6 @@ use Rattle.verdict.proofs.Decide.{present, someLine, samePoint, notLower, lines
 use Rattle.width.specs.Allowed.{greatest, floorLog2, allowedWidth}
 use Rattle.starred.specs.Cases.{Case, draws, checks, allows, accepted, Right, cases}
 
-both : (a b : Bool) → T (a && b) → T a × T b
-both true true t = (tt, tt)
-both true false t = absurd t
-both false b t = absurd t
-
 -- Equal lists, by a test.
 same : List ℕ → List ℕ → Bool
 same [] [] = true
@@ -39,7 +35,7 @@ unfolding same
 same→eq [] [] t = refl
 same→eq [] (y ∷ ys) t = absurd t
 same→eq (x ∷ xs) [] t = absurd t
-same→eq (x ∷ xs) (y ∷ ys) t = let h = both (eqb x y) (same xs ys) t in ap₂ (λ (z : ℕ) (zs : List ℕ). z ∷ zs) (eqb→eq x y (h .0)) (same→eq xs ys (h .1))
+same→eq (x ∷ xs) (y ∷ ys) t = let h = and-yes (eqb x y) (same xs ys) t in ap₂ (λ (z : ℕ) (zs : List ℕ). z ∷ zs) (eqb→eq x y (h .0)) (same→eq xs ys (h .1))
 
 -- An answer with its four numbers in a list.
 listed : Drawn → List ℕ
@@ -61,7 +57,7 @@ test (allows n w) = eqb (allowedWidth n) w
 
 right : (c : Case) → T (test c) → Right c
 unfolding test
-right (draws t p n w h q) ok = let z = both (same (listed (drawnOf t p)) (0 ∷ n ∷ w ∷ h ∷ [])) (same (placedIn t p) q) ok in (listed→eq _ _ _ _ (same→eq _ _ (z .0)), same→eq _ _ (z .1))
+right (draws t p n w h q) ok = let z = and-yes (same (listed (drawnOf t p)) (0 ∷ n ∷ w ∷ h ∷ [])) (same (placedIn t p) q) ok in (listed→eq _ _ _ _ (same→eq _ _ (z .0)), same→eq _ _ (z .1))
 right (checks t p v) ok = subst (Verdict t p) (eqb→eq _ _ ok) (decided t p)
 right (allows n w) ok = eqb→eq _ _ ok
 
@@ -77,7 +73,7 @@ All P (c ∷ cs) = P c × All P cs
 every : (cs : List Case) → T (tests cs) → All Right cs
 unfolding tests
 every [] ok = tt
-every (c ∷ cs) ok = let z = both (test c) (tests cs) ok in (right c (z .0), every cs (z .1))
+every (c ∷ cs) ok = let z = and-yes (test c) (tests cs) ok in (right c (z .0), every cs (z .1))
 
 pub starred : All Right cases
 unfolding any member repeats count word follow chain size nodes descend badLength badHead beyond badChain stray badLinks isEmpty links badTree shortPlacements fault refusal width height shift flip mirror spine opposite seen runRole roleAfter handAfter rolesAfter roles hang widest join place steps drawing draw store planOf drawnOf placedIn cross overlap spans astride meets samePlace along clashes present someLine samePoint notLower linesClash outOfOrder verdictOf greatest floorLog2 allowedWidth same listed test tests

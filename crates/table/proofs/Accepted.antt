@@ -6,8 +6,9 @@ use mathlib.Core.List.{List, []}
 use Prim.Native.Nat.{ℕ, zero, suc, _+_, _*_, _≤_, _<_}
 use native.Mathlib.Omega.{arith}
 use lib.Dec.{T, eqb, ltb, eqb→eq, eqb·suc-zero}
-use borrow.Author.Tests.{ltb-false, le-ltb}
 use lib.ListN.{length}
+use mir.Facts.{and-yes}
+use borrow.Author.Tests.{ltb-false, le-ltb}
 use Rattle.table.specs.Lists.{any, member, count}
 use Rattle.table.specs.Table.{Side, left, right, records, nextOf, leftOf, rightOf, linkOf, rootOf, follow, chain, Chained}
 use Rattle.table.specs.Tree.{none, node, size, nodes, descend, treeAt, tree}
@@ -19,10 +20,6 @@ use Rattle.table.proofs.Causes.{length-bounds, sound-distinct, sound-wi
 no-cause : (b : Bool) (n m : ℕ) → cond b (suc n) m ≡ 0 → (b ≡ false) × (m ≡ 0)
 no-cause true n m e = absurd (omega arith)
 no-cause false n m e = (refl, e)
-
-and-T : (a b : Bool) → T (a && b) → T a × T b
-and-T true b h = (tt, h)
-and-T false b h = absurd h
 
 -- Row 5 as five tests.
 tests : (e a b c d : Bool) → not e && (a || (b || (c || d))) ≡ false → T e ⊎ ((a ≡ false) × (b ≡ false) × (c ≡ false) × (d ≡ false))
@@ -101,7 +98,7 @@ module _ (t : List ℕ) (ok : fault t ≡ 0) where
     where
       empty : T (isEmpty t) → Empty t
       empty h =
-          let e = and-T (eqb (nextOf t 0) 0) (eqb (rootOf t) 0) (unfold isEmpty in h) in
+          let e = and-yes (eqb (nextOf t 0) 0) (eqb (rootOf t) 0) (unfold isEmpty in h) in
           (unfold chain in rw (eqb→eq (nextOf t 0) 0 (e .0)) (follow-none (records t) t), eqb→eq (rootOf t) 0 (e .1))
 
   pub root : Empty t ⊎ Chained t (rootOf t)
