@@ -8,9 +8,9 @@ use native.Mathlib.Omega.{arith}
 use Rattle.segment.specs.declared.Point.{Point}
 use Rattle.segment.specs.Segment.{Clash}
 use Rattle.segment.specs.inner.Test.{transpose, number}
-use Rattle.segment.proofs.CrossProduct.{Weights, weights}
+use Rattle.segment.proofs.Weights.{Weights, weights, at-end, at-point}
 use Rattle.segment.proofs.SharedPoint.{on-transpose}
-use Rattle.segment.proofs.Clashing.{point, at-end, at-point, clash-rows-apart}
+use Rattle.segment.proofs.Clashing.{point, clash-rows-apart}
 
 -- ---- rows for columns
 

@@ -9,11 +9,12 @@ use native.Mathlib.Omega.{arith}
 use lib.Dec.{T, eqb}
 use lib.IntN.{pos}
 use Rattle.segment.specs.declared.Point.{Point}
-use Rattle.segment.specs.Segment.{at, On, cross, Share, Is, Lies, Clash}
+use Rattle.segment.specs.Segment.{at, On, cross, Share, Lies, Clash}
 use Rattle.segment.proofs.Decides.{Decides, eq-decides, not-decides, and-decides, or-decides, cond-decides, same-meaning}
+use Rattle.segment.proofs.Weights.{Weights, weights, on, on-turn, at-start, at-end, at-point}
 use Rattle.segment.proofs.Difference.{diff-zero}
-use Rattle.segment.proofs.CrossProduct.{plus, minus, cross-diff, Weights, weights, on, on-turn}
-use Rattle.segment.proofs.SharedPoint.{meets, at-start, meets-decides-share, lies-decides, rows-apart}
+use Rattle.segment.proofs.CrossProduct.{plus, minus, cross-diff}
+use Rattle.segment.proofs.SharedPoint.{meets, meets-decides-share, lies-decides, rows-apart}
 
 unfoldable pub same : Point → Point → Bool
 same P Q = eqb (P .column) (Q .column) && eqb (P .row) (Q .row)
@@ -56,9 +57,6 @@ clash-turn h = record { q = h .q; x = h .x; y = h .y; q≥1 = h .q≥1; on-PQ = 
 pub clash-turn-first : {P Q R S : Point} → Clash P Q R S → Clash Q P R S
 clash-turn-first h = clash-exchange (clash-turn (clash-exchange h))
 
-pub clash-sym : (P Q R S : Point) → Clash P Q R S ↔ Clash R S P Q
-clash-sym P Q R S = (clash-exchange, clash-exchange)
-
 -- ---- a common end P of P A and P B
 
 -- a midpoint is an end only of a point
@@ -95,19 +93,6 @@ nearer {P} {A} {B} a b h one = go (le-dest h)
         in-row = omega (arith, ap (λ (n : ℕ). n * P .row) f);
       });
     }
-
-pub at-end : {P B : Point} {q x y : ℕ} (b : Weights P B q x y) → b .v ≡ 0 → Is P q x y
-at-end {P} {B} {q} b e = let f : b .u ≡ q = omega arith in record {
-  in-column = omega (arith, ap (λ (n : ℕ). n * P .column) f, ap (λ (n : ℕ). n * B .column) e);
-  in-row = omega (arith, ap (λ (n : ℕ). n * P .row) f, ap (λ (n : ℕ). n * B .row) e);
-}
-
--- a point of a segment of one point
-pub at-point : {P Q : Point} {q x y : ℕ} (a : Weights P Q q x y) → Q ≡ P → Is P q x y
-at-point {P} {Q} a e = record {
-  in-column = omega (arith, ap (λ (n : ℕ). n * P .column) (a .sum), ap (λ (X : Point). a .v * X .column) e);
-  in-row = omega (arith, ap (λ (n : ℕ). n * P .row) (a .sum), ap (λ (X : Point). a .v * X .row) e);
-}
 
 -- a segment of one point clashes with a segment that it lies on and does not end
 pub point-lies : {B P Q : Point} → Clash B B P Q → Lies B P Q

@@ -1,13 +1,14 @@
 -- The cross product over ℕ: `cross P A B` is `plus P A B - minus P A B`. Its sign, its linearity along a segment, and Cramer's rule.
 use mathlib.Core.Path.{_≡_, ap, sym, _∙_}
 use mathlib.Core.Logic.{_↔_}
-use Prim.Native.Nat.{ℕ, _+_, _*_, _-_, _<_}
+use Prim.Native.Nat.{ℕ, _+_, _*_, _<_}
 use native.Mathlib.Omega.{arith}
 use lib.Dec.{T}
 use lib.IntN.{pos}
 use lib.Signed.{ltZ}
 use Rattle.segment.specs.declared.Point.{Point}
-use Rattle.segment.specs.Segment.{cross, On}
+use Rattle.segment.specs.Segment.{cross}
+use Rattle.segment.proofs.Weights.{Weights}
 use Rattle.segment.proofs.Difference.{Diff, diff-pos, diff-same, diff-sub, diff-mul, diff-negative}
 
 abbrev pub plus : Point → Point → Point → ℕ
@@ -23,23 +24,6 @@ cross-diff P A B = diff-same _ (diff-sub (diff-mul _ _ (diff-pos (A .column) (P 
 
 pub cross-negative : (P A B : Point) → T (ltZ (cross P A B) (pos 0)) ↔ (plus P A B < minus P A B)
 cross-negative P A B = diff-negative _ (cross-diff P A B) .is
-
--- `On` with the two weights u = q - s and v = s
-pub record Weights (A B : Point) (q x y : ℕ) : Type 0 where
-  pub u : ℕ
-  pub v : ℕ
-  pub sum : u + v ≡ q
-  pub in-column : x ≡ u * A .column + v * B .column
-  pub in-row : y ≡ u * A .row + v * B .row
-
-pub weights : {A B : Point} {q x y : ℕ} → On A B q x y → Weights A B q x y
-weights {q} o = record { u = q - o .s; v = o .s; sum = omega (arith, o .s≤q); in-column = o .at-column; in-row = o .at-row }
-
-pub on : {A B : Point} {q x y : ℕ} → Weights A B q x y → On A B q x y
-on {q} w = let e : w .u ≡ q - w .v = omega arith in record { s = w .v; s≤q = omega arith; at-column = rw e at (w .in-column); at-row = rw e at (w .in-row) }
-
-pub on-turn : {A B : Point} {q x y : ℕ} → On A B q x y → On B A q x y
-on-turn o = let w = weights o in on (record { u = w .v; v = w .u; sum = omega arith; in-column = omega arith; in-row = omega arith })
 
 -- an affine sum at the point (x, y) / q, times q
 affine : (k m n q x y u v p p′ r r′ : ℕ) → u + v ≡ q → x ≡ u * p + v * r → y ≡ u * p′ + v * r′ → u * (k + m * p + p′ * n) + v * (k + m * r + r′ * n) ≡ q * k + m * x + y * n

@@ -1,5 +1,6 @@
 -- The laws of segments. None is assumed.
 pub mod Decides
+pub mod Weights
 pub mod Difference
 pub mod CrossProduct
 pub mod Range

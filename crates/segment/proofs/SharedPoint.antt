@@ -11,8 +11,9 @@ use Rattle.segment.specs.declared.Point.{Point}
 use Rattle.segment.specs.Segment.{On, Share, Lies}
 use Rattle.segment.specs.inner.Test.{overlap, spans, astride, transpose}
 use Rattle.segment.proofs.Decides.{Decides, le-decides, and-decides, or-decides, same-meaning}
+use Rattle.segment.proofs.Weights.{weights, on, on-turn, at-start}
 use Rattle.segment.proofs.Difference.{diff-nonneg, diff-nonpos}
-use Rattle.segment.proofs.CrossProduct.{plus, minus, cross-diff, weights, on, on-turn, linear, cramer-column, cramer-row}
+use Rattle.segment.proofs.CrossProduct.{plus, minus, cross-diff, linear, cramer-column, cramer-row}
 
 -- the test of shared points
 unfoldable pub meets : Point → Point → Point → Point → Bool
@@ -124,10 +125,6 @@ crossing P Q R S d s₁ s₂ s₃ s₄ = go (le-dest s₁) (le-dest s₂) (le-de
     }
 
 -- ---- and where all four points are in line
-
--- the end A of A B, times q
-pub at-start : (A B : Point) (q : ℕ) → On A B q (q * A .column) (q * A .row)
-at-start A B q = on (record { u = q; v = 0; sum = omega arith; in-column = omega arith; in-row = omega arith })
 
 -- X is in line with A B and between them by its column
 touch : (A B X Y : Point) → A .column < B .column → A .column ≤ X .column → X .column ≤ B .column → plus A B X ≡ minus A B X → Share A B X Y
@@ -249,9 +246,6 @@ lies→share {B} l = record { q = l .q; x = l .q * B .column; y = l .q * B .row;
 
 pub lies-decides : (B P Q : Point) → Decides (meets P Q B B) (Lies B P Q)
 lies-decides B P Q = same-meaning (share→lies, lies→share) (meets-decides-share P Q B B)
-
-pub lies↔ : (B P Q : Point) → T (meets P Q B B) ↔ Lies B P Q
-lies↔ B P Q = lies-decides B P Q .is
 
 -- segments whose rows are apart share no point
 pub rows-apart : {P Q R S : Point} → max (P .row) (Q .row) < min (R .row) (S .row) → Share P Q R S → ⊥
