@@ -8,7 +8,7 @@ use native.Mathlib.Omega.{arith}
 use lib.Dec.{T, eqb·zero-suc, eqb·suc-zero}
 use lib.ListN.{length, length-append}
 use Rattle.table.specs.Lists.{member, count}
-use Rattle.table.specs.Table.{Side, left, right, nextOf, leftOf, rightOf, linkOf, follow, chain, Chained}
+use Rattle.table.specs.Table.{Side, left, right, nextOf, leftOf, rightOf, linkOf, follow}
 use Rattle.table.specs.Tree.{Tree, none, node, size, nodes, descend}
 use Rattle.table.specs.Refusal.{links}
 use Rattle.table.proofs.Lists.{or-T, member-cons, member-append, same, same-one, Alike, alike, count-append, member-count, within-cons, within-one, links-within}
@@ -54,6 +54,10 @@ pub length-nodes : (a : Tree) → length (nodes a) ≡ size a
 unfolding nodes size
 length-nodes none = refl
 length-nodes (node k a b) = omega (arith, length-append (nodes a) (nodes b), length-nodes a, length-nodes b)
+
+pub count-node : (x k : ℕ) (a b : Tree) → count x (nodes (node k a b)) ≡ same x k + (count x (nodes a) + count x (nodes b))
+unfolding nodes count
+count-node x k a b = omega (arith, count-append x (nodes a) (nodes b))
 
 pub size-link : (n : ℕ) (t : List ℕ) (k : ℕ) (s : Side) → 0 < k → size (descend n t (linkOf t s k)) < size (descend (suc n) t k)
 unfolding descend size

@@ -52,11 +52,6 @@ any-false f (n ∷ ns) = (
   λ h. or-false (f n) (any f ns) .1 (h n (member-cons n n ns .1 (inl refl)), any-false f ns .1 (λ k m. h k (member-cons k n ns .1 (inr m)))),
 )
 
-pub any-append : (f : ℕ → Bool) (a b : List ℕ) → any f (a ++ b) ≡ any f a || any f b
-unfolding any
-any-append f [] b = refl
-any-append f (n ∷ ns) b = rw (any-append f ns b) (sym (or-assoc (f n) (any f ns) (any f b)))
-
 pub member-append : (k : ℕ) (a b : List ℕ) → member k (a ++ b) ≡ member k a || member k b
 unfolding member
 member-append k [] b = refl
@@ -178,9 +173,6 @@ length-within ks cs w = omega (arith, length-sum ks, length-sum cs, sum-within (
 -- Of two lists of one length, each stands within the other if one does.
 pub within-back : (ks cs : List ℕ) → Within ks cs → length cs ≤ length ks → Within cs ks
 within-back ks cs w h k = let z : ¬ (count k ks < count k cs) = λ g. omega (arith, length-within (k ∷ ks) cs (within-cons k ks cs w g)) in omega arith
-
-pub covers : (ks cs : List ℕ) → Distinct ks → ((k : ℕ) → T (member k ks) → T (member k cs)) → length cs ≤ length ks → (k : ℕ) → T (member k cs) → T (member k ks)
-covers ks cs d h l k m = member-count k ks .1 (omega (arith, within-back ks cs (within ks cs d h) l k, member-count k cs .0 m))
 
 -- The numbers below n.
 upto : ℕ → List ℕ

@@ -10,7 +10,7 @@ use lib.Seq.{getD-set-same}
 use borrow.Author.Tests.{eq-eqb, ne-eqb, eqb-true, eqb-false, not-false}
 use Rattle.table.specs.Lists.{member}
 use Rattle.table.specs.Table.{records, nextOf, rootOf, follow, chain}
-use Rattle.table.specs.Refusal.{badChain, badLinks, isEmpty, named, badTree, fault}
+use Rattle.table.specs.Refusal.{badChain, badLinks, isEmpty, named, badTree}
 use Rattle.table.specs.inner.Steps.{Shaped, Listed, Marked, Rooted, Ordered, Filled, Grown, notOnce, notReached}
 use Rattle.table.proofs.Lists.{T-true, T-false, or-false}
 use Rattle.table.proofs.Chain.{follow-none}
@@ -41,22 +41,6 @@ tree-headless t b e l =
   where
     ended : nextOf t 0 ≡ 0 → length (chain t) ≡ 0
     ended n = unfold chain in (rw (n, follow-none))
-
--- Causes 1 to 5 do not hold.
-pub accepted : (t : List ℕ) → Rooted t → notReached t ≡ false → fault t ≡ 0
-unfolding fault
-accepted t r e =
-    rw (
-      r .shaped .whole,
-      r .shaped .zeros,
-      r .sound,
-      r .linked,
-      tree-tests t (λ z. omega (arith, sound-within t (r .sound) (rootOf t) (r .root))),
-      T-true (member (rootOf t) (chain t)) .0 (r .root),
-      eq-eqb (named t (rootOf t)) 0 (r .unnamed),
-      r .once,
-      e,
-    )
 
 pub grown-bad : (t : List ℕ) (n : ℕ) (order : List ℕ) → badTree t ≡ true → Grown t false n order
 grown-bad t n order e = record { good = rw e; ordered = λ z. absurd (false≢true z) }

@@ -6,7 +6,7 @@ use mathlib.Core.List.{List, [], _∷_}
 use Prim.Native.Nat.{ℕ, zero, suc, _<_}
 use native.Mathlib.Omega.{arith}
 use lib.Dec.{T, eqb}
-use lib.ListN.{length, getD}
+use lib.ListN.{length, getD, take}
 use lib.Seq.{getD-take}
 use borrow.Author.Tests.{lt-leb}
 use Rattle.table.specs.Lists.{any, member}
@@ -27,6 +27,17 @@ place k [] h = absurd (unfold member in h)
 place k (n ∷ ns) h =
     ⊎-elim (λ (e : k ≡ n). (0, omega arith, sym e)) (λ (m : T (member k ns)). let p = place k ns m in (suc (p .0), omega (arith, p .1), p .2)) (member-cons k n ns .0 h)
 
+-- The same of the first n numbers of a longer list.
+module _ (list : List ℕ) {ks : List ℕ} {n : ℕ} (e : n ≡ length ks) (l : take n list ≡ ks) where
+  pub taken-at : (i : ℕ) → i < n → getD ks i 0 ≡ getD list i 0
+  taken-at i h = rw (sym l) (getD-take n list i 0 h)
+
+  pub taken-member : (i : ℕ) → i < n → T (member (getD list i 0) ks)
+  taken-member i h = rw (sym (taken-at i h)) (member-at ks i (omega arith))
+
+  pub taken-place : (k : ℕ) → T (member k ks) → (i : ℕ) × (i < n) × (getD list i 0 ≡ k)
+  taken-place k m = let p = place k ks m in let h : p .0 < n = omega (arith, p .1) in (p .0, h, sym (taken-at (p .0) h) ∙ p .2)
+
 -- A number of the list passes.
 pub any-true : (f : ℕ → Bool) (ks : List ℕ) (k : ℕ) → T (member k ks) → f k ≡ true → any f ks ≡ true
 any-true f ks k m e = go (any f ks) refl
@@ -36,11 +47,8 @@ any-true f ks k m e = go (any f ks) refl
     go false h = absurd (subst T (sym e ∙ any-false f ks .0 h k m) tt)
 
 module _ (t : List ℕ) (n : ℕ) (list : List ℕ) (l : Listed t n list) where
-  same-place : (i : ℕ) → i < n → getD (chain t) i 0 ≡ getD list i 0
-  same-place i h = rw (sym (l .listed)) (getD-take n list i 0 h)
-
   pub listed-member : (i : ℕ) → i < n → T (member (getD list i 0) (chain t))
-  listed-member i h = rw (sym (same-place i h)) (member-at (chain t) i (omega (arith, l .nodes)))
+  listed-member = taken-member list (l .nodes) (l .listed)
 
   pub listed-inside : (i : ℕ) → i < n → getD list i 0 < records t
   listed-inside i h = sound-within t (l .sound) (getD list i 0) (listed-member i h) .1
@@ -49,11 +57,7 @@ module _ (t : List ℕ) (n : ℕ) (list : List ℕ) (l : Listed t n list) where
   scan-hit f i h e = any-true f (chain t) (getD list i 0) (listed-member i h) e
 
   pub scan-none : (f : ℕ → Bool) → ((i : ℕ) → i < n → f (getD list i 0) ≡ false) → any f (chain t) ≡ false
-  scan-none f h =
-      any-false f (chain t) .1
-      (λ k m. let p = place k (chain t) m in
-      let s : p .0 < n = omega (arith, p .1, l .nodes) in
-      ap f (sym (p .2) ∙ same-place (p .0) s) ∙ h (p .0) s)
+  scan-none f h = any-false f (chain t) .1 (λ k m. let p = taken-place list (l .nodes) (l .listed) k m in ap f (sym (p .2)) ∙ h (p .0) (p .1))
 
   -- A link is stray if it is not marked.
   stray-mark : (mark : List ℕ) → Marked t mark → (k : ℕ) → eqb (getD mark k 0) 0 ≡ stray t k
