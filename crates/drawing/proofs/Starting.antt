@@ -1,37 +1,38 @@
 -- The two ends of a spine: the walk at its first node, a knee, where all of it is left; and where it has ended, and only the pending child is left.
 use mathlib.Core.Path.{_≡_, refl, ap, sym, subst, subst₂, _∙_}
 use mathlib.Core.Bool.{Bool}
-use mathlib.Core.Logic.{inl, inr}
+use mathlib.Core.Logic.{inl}
 use mathlib.Core.List.{List, []}
 use Prim.Native.Nat.{ℕ, _+_, _≤_, _<_}
 use native.Mathlib.Omega.{arith}
 use lib.Dec.{T}
 use lib.ListN.{length, getD}
 use Rattle.table.specs.Lists.{count}
-use Rattle.table.specs.Table.{Side, left, right, leftOf, rightOf, linkOf, Chained}
+use Rattle.table.specs.Table.{Side, leftOf, rightOf, Chained}
 use Rattle.table.specs.Tree.{Tree, none, node, size, nodes, treeAt}
 use Rattle.table.specs.Refusal.{fault}
-use Rattle.table.proofs.Lists.{repeats-count}
-use Rattle.table.proofs.Accepted.{tree-none, nodes-distinct, down, tree-unfolds}
+use Rattle.table.proofs.Accepted.{tree-none, tree-unfolds}
 use Rattle.layout.specs.Layout.{Layout}
 use Rattle.layout.specs.Spine.{SpineNode, Role, knee}
 use Rattle.layout.specs.Drawing.{draw}
-use Rattle.layout.specs.inner.Held.{facing, inwards, hungOn, heightOn, widthOn, widestOn, spineOn, lay, Frame, bottom, Inside}
-use Rattle.layout.proofs.Held.{inside-less, hung-inside, rooms-law, inside-fits, hung-law, bottom-law}
+use Rattle.layout.specs.inner.Held.{facing, inwards, hungOn, heightOn, widthOn, widestOn, spineOn, lay, bottom, Inside}
+use Rattle.layout.proofs.Sides.{hung-none, height-none, width-none}
+use Rattle.layout.proofs.Held.{inside-less, hung-inside, rooms-law, inside-fits, hung-law, bottom-law, frame-from}
 use Rattle.measure.specs.inner.Sized.{Named}
 use Rattle.measure.specs.inner.Forked.{sideOf}
 use Rattle.measure.specs.inner.Prepared.{Prepared, Along, no-spine, a-spine}
+use Rattle.measure.proofs.Spines.{chained}
+use Rattle.measure.proofs.Frames.{once}
 use Rattle.drawing.specs.Answer.{store}
 use Rattle.drawing.specs.declared.place.Walk.{Walk}
 use Rattle.drawing.specs.inner.Placing.{Hanging, Hung, kept, finish, finished, handAt, spineFrom, Going, unplaced, Stepped, rowBelow, remaining}
-use Rattle.drawing.proofs.Shapes.{count-node, hung-none, height-none, width-none, width-node}
+use Rattle.drawing.proofs.Shapes.{width-node}
 use Rattle.drawing.proofs.Onward.{finished-none}
 
 -- ---- nodes and no nodes
 
 pub named-node : (t : List ℕ) (k : ℕ) → Named t k → 0 < k → Chained t k
-named-node t k (inl e) h = absurd (omega arith)
-named-node t k (inr c) h = c
+named-node t k n h = chained t k n (λ e. omega arith)
 
 some-node : (t : List ℕ) → fault t ≡ 0 → (k : ℕ) → Chained t k → 0 < size (treeAt t k)
 unfolding size
@@ -84,29 +85,12 @@ module _ (t roles widest : List ℕ) (w : Walk) (ended : w .at ≡ 0) where
 
 -- ---- the start
 
--- Every subtree of an accepted table has each record once.
-once-below : (i k : ℕ) (a b : Tree) → count i (nodes (node k a b)) ≤ 1 → (count i (nodes a) ≤ 1) × (count i (nodes b) ≤ 1)
-once-below i k a b h = (omega (arith, count-node i k a b), omega (arith, count-node i k a b))
-
-module _ (t : List ℕ) (ok : fault t ≡ 0) where
-  subtree-once : (k : ℕ) → Chained t k → (i : ℕ) → count i (nodes (treeAt t k)) ≤ 1
-  subtree-once = down t ok (λ (k : ℕ). (i : ℕ) → count i (nodes (treeAt t k)) ≤ 1) (λ c. repeats-count _ .0 (nodes-distinct t ok)) step
-    where
-      step : (k : ℕ) (s : Side) → Chained t k → Chained t (linkOf t s k) → ((i : ℕ) → count i (nodes (treeAt t k)) ≤ 1) → (i : ℕ) → count i (nodes (treeAt t (linkOf t s k))) ≤ 1
-      step k left c d h i = once-below i k _ _ (rw (tree-unfolds t ok k c) at (h i)) .0
-      step k right c d h i = once-below i k _ _ (rw (tree-unfolds t ok k c) at (h i)) .1
-
 -- What is measured of a node: W of its spine, and the roles along it.
 spine-widest : {roles widest : List ℕ} {s : Side} {k : ℕ} {a b : Tree} → Prepared roles widest s (node k a b) → getD widest k 0 ≡ widestOn s (node k a b)
 spine-widest (a-spine e l) = e
 
 spine-along : {roles widest : List ℕ} {s : Side} {k : ℕ} {a b : Tree} → Prepared roles widest s (node k a b) → Along roles widest s knee (spineOn s (node k a b))
 spine-along (a-spine e l) = l
-
-frame : (s : Side) (e w : ℕ) → Frame s e (inwards s e w) w
-unfolding inwards
-frame left e w = refl
-frame right e w = λ h. omega arith
 
 module _ (t roles widest : List ℕ) (ok : fault t ≡ 0) (b : Bool) (root edge top : ℕ) (g : Hanging t roles widest (sideOf b) root edge 0 top) (node-there : 0 < root) where
   abbrev s : Side
@@ -116,14 +100,14 @@ module _ (t roles widest : List ℕ) (ok : fault t ≡ 0) (b : Bool) (root edge 
   abbrev pub start : Walk
   start = record { at = root; row = top; lowest = top; pending = 0; right = b; edge = edge; widest = getD widest root 0; mirrored = b }
 
-  chained : Chained t root
-  chained = named-node t root (g .named) node-there
+  root-chained : Chained t root
+  root-chained = named-node t root (g .named) node-there
 
   tree : treeAt t root ≡ node root (treeAt t (leftOf t root)) (treeAt t (rightOf t root))
-  tree = tree-unfolds t ok root chained
+  tree = tree-unfolds t ok root root-chained
 
   some : 0 < size (treeAt t root)
-  some = some-node t ok root chained
+  some = some-node t ok root root-chained
 
   widest-law : getD widest root 0 ≡ widestOn s (treeAt t root)
   widest-law = rw tree (spine-widest (rw tree at (g .prepared)))
@@ -136,19 +120,19 @@ module _ (t roles widest : List ℕ) (ok : fault t ≡ 0) (b : Bool) (root edge 
   going-start = record {
     named = g .named;
     named-pending = inl refl;
-    once = λ i. rw (tree-none t) (omega (arith, subtree-once t ok root chained i));
+    once = λ i. rw (tree-none t) (omega (arith, once t ok root (g .named) i));
     ready = rw (tree-none t) (record {
       prepared = no-spine;
       along = rw tree (spine-along (rw tree at (g .prepared)));
       spare = inside-less 65536 s edge (omega (arith, width-none s, width-node s (treeAt t root) some)) inside;
-      rooms = rw widest-law (rooms-law 65536 s edge _ top (treeAt t root) (frame s edge _) inside);
+      rooms = rw widest-law (rooms-law 65536 s edge _ top (treeAt t root) (frame-from s edge _) inside);
       rows = rw (height-none s) (omega (arith, bottom-law s top (treeAt t root) some, g .rows));
     });
   }
 
   pub remaining-start : (p : List ℕ) → remaining t knee start p ≡ store (hungOn s edge top (treeAt t root)) p
   unfolding widthOn
-  remaining-start p = rw (tree-none t) (finished-none (getD widest root 0) s edge knee top top _ p ∙ ap (λ (L : Layout). store L p) (sym (hung-law s edge _ top (treeAt t root) (rw widest-law (frame s edge _)) (inside-fits 65536 s edge (draw (facing s (treeAt t root))) inside))))
+  remaining-start p = rw (tree-none t) (finished-none (getD widest root 0) s edge knee top top _ p ∙ ap (λ (L : Layout). store L p) (sym (hung-law s edge _ top (treeAt t root) (rw widest-law (frame-from s edge _)) (inside-fits 65536 s edge (draw (facing s (treeAt t root))) inside))))
 
   pub bottom-start : rowBelow t knee start ≡ top + heightOn s (treeAt t root)
   bottom-start = rw (tree-none t, height-none s) (bottom-law s top (treeAt t root) some)

@@ -12,7 +12,8 @@ use Rattle.segment.specs.Segment.{at}
 use Rattle.table.specs.Lists.{count}
 use Rattle.table.specs.Table.{left, right}
 use Rattle.table.specs.Tree.{nodes}
-use Rattle.table.proofs.Lists.{same, same-one, count-append}
+use Rattle.table.proofs.Lists.{same, same-one}
+use Rattle.table.proofs.Chain.{count-node}
 use Rattle.layout.specs.Layout.{Layout, blank, placed}
 use Rattle.layout.proofs.Clean.{Node, root, below, point, recordOf}
 use Rattle.layout.proofs.Rows.{shape}
@@ -36,8 +37,8 @@ store-length blank p = refl
 store-length (placed k P a b) p = store-length b _ ∙ (store-length a _ ∙ simp length-set)
 
 pub times-placed : (k j : ℕ) (P : Point) (a b : Layout) → times k (placed j P a b) ≡ same k j + (times k a + times k b)
-unfolding nodes shape count
-times-placed k j P a b = ap (λ (n : ℕ). same k j + n) (count-append k (nodes (shape a)) (nodes (shape b)))
+unfolding shape
+times-placed k j P a b = count-node k j (shape a) (shape b)
 
 pub times-node : (L : Layout) (n : Node L) → 1 ≤ times (recordOf n) L
 times-node (placed j P a b) root = omega (arith, times-placed j j P a b, same-one j j refl)

@@ -6,12 +6,12 @@ use Prim.Native.Nat.{ℕ, _*_, _≤_}
 use native.Mathlib.Omega.{arith}
 use lib.Dec.{T}
 use lib.ListN.{length, getD}
-use Rattle.table.specs.Lists.{member}
 use Rattle.table.specs.Table.{left, records, rootOf, chain, Chained}
 use Rattle.table.specs.Tree.{Tree, none, size, treeAt, tree}
 use Rattle.table.specs.Refusal.{fault, refusal}
 use Rattle.table.specs.declared.Reading.{Reading}
 use Rattle.table.specs.inner.Reading.{Read, ReadOf}
+use Rattle.table.proofs.Lists.{within-one, length-within}
 use Rattle.table.proofs.Accepted.{refusal-none, tree-none, records-bounds, chain-length, root, size-chain}
 use Rattle.layout.specs.Layout.{Layout, width, height}
 use Rattle.layout.specs.Drawing.{draw, drawing}
@@ -74,13 +74,8 @@ pub some-root : (t : List ℕ) → fault t ≡ 0 → (n : ℕ) → n ≡ length 
 some-root t ok n e h = ⊎-elim (λ z. absurd (h (e ∙ ap length (z .0)))) (λ c. c) (root t ok)
 
 -- No nodes: the empty tree.
-member-none : (k : ℕ) (ks : List ℕ) → T (member k ks) → length ks ≡ 0 → ⊥
-unfolding member
-member-none k [] h e = h
-member-none k (n ∷ ns) h e = omega arith
-
 no-tree : (t : List ℕ) → fault t ≡ 0 → length (chain t) ≡ 0 → tree t ≡ none
-no-tree t ok e = ap (treeAt t) (⊎-elim (λ z. z .1) (λ c. absurd (member-none (rootOf t) (chain t) c e)) (root t ok)) ∙ tree-none t
+no-tree t ok e = ap (treeAt t) (⊎-elim (λ z. z .1) (λ c. absurd (omega (arith, length-within (rootOf t ∷ []) (chain t) (within-one (rootOf t) (chain t) c)))) (root t ok)) ∙ tree-none t
 
 pub nothing-drawn : (t p : List ℕ) → refusal t (length p) ≡ 0 → fault t ≡ 0 → length (chain t) ≡ 0 →
     (_≡_ {A = Drawn} (record { refusal = 0; plan = emptyPlan }) (drawnOf t p)) × (p ≡ placedIn t p)

@@ -13,13 +13,14 @@ use Rattle.table.specs.Tree.{Tree, none, node, size, nodes, tree}
 use Rattle.table.specs.Refusal.{fault, refusal}
 use Rattle.table.proofs.Accepted.{refusal-none, records-bounds, chain-within, chain-length, nodes-chain, nodes-distinct, size-chain}
 use Rattle.table.proofs.Lists.{repeats-count, member-count}
-use Rattle.layout.specs.Layout.{Layout, width, height}
+use Rattle.layout.specs.Layout.{Layout, width}
 use Rattle.layout.specs.Drawing.{drawing, draw}
 use Rattle.layout.proofs.Theorem.{promise}
 use Rattle.layout.proofs.Records.{Agrees, Checked, drawn-checked}
 use Rattle.drawing.specs.Answer.{store, planOf, drawnOf, placedIn}
 use Rattle.drawing.specs.declared.Drawn.{Drawn}
-use Rattle.drawing.proofs.StoredPoints.{times, store-length, store-point}
+use Rattle.drawing.proofs.StoredPoints.{times, store-point}
+use Rattle.drawing.proofs.Elsewhere.{as-many}
 use Rattle.drawing.proofs.Answered.{Accepted, accepted, drawn-refusal}
 use Rattle.verdict.specs.Lines.{pointOf}
 use Rattle.verdict.specs.Conditions.{SamePoint, NotLower, Touching, OutOfOrder}
@@ -86,7 +87,7 @@ narrow t ok = go (length (chain t)) (size-chain t ok) (omega (arith, chain-lengt
 pub kept : (t p : List ℕ) → drawnOf t p .refusal ≡ 0 → Kept t p
 unfolding planOf
 kept t p e = record {
-  good = inr (rw length-after none-refused, good t (placedIn t p) ok (drawn-checked (tree t) (pointOf (placedIn t p)) (subst (λ (q : List ℕ). Agrees (pointOf q) (draw (tree t))) (sym (a .after)) (agrees t p ok long))));
+  good = inr (rw (as-many t p) none-refused, good t (placedIn t p) ok (drawn-checked (tree t) (pointOf (placedIn t p)) (subst (λ (q : List ℕ). Agrees (pointOf q) (draw (tree t))) (sym (a .after)) (agrees t p ok long))));
   narrow = subst (λ (d : Drawn). d .plan .width ≤ allowedWidth (length (chain t))) (sym (a .drawn)) (narrow t ok);
   short = subst (λ (d : Drawn). d .plan .height ≤ length (chain t)) (sym (a .drawn)) (omega (arith, promise (tree t) .short, size-chain t ok));
 }
@@ -102,6 +103,3 @@ kept t p e = record {
 
     long : 2 * records t ≤ length p
     long = refusal-none t (length p) .0 none-refused .1
-
-    length-after : length (placedIn t p) ≡ length p
-    length-after = ap length (a .after) ∙ store-length (draw (tree t)) p

@@ -1,3 +1,4 @@
+-- For request 9 (no gaps, no shared rows), with ApartAlong and EverySpine; nothing else cites it yet.
 -- Of one spine: hung drawings share no row, and spine nodes are outside their rectangles (`SpineApart`). How that is kept when a spine node is put before the rest (`spread-join`), and
 -- when the whole is held by an edge (`spread-put`).
 use mathlib.Core.Path.{_≡_, refl, ap, sym, subst, _∙_}

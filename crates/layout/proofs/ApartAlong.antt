@@ -1,3 +1,4 @@
+-- For request 9 (no gaps, no shared rows), with Apart and EverySpine; nothing else cites it yet.
 -- The spine of a subtree hung on a side is apart (`apart`): along the spine, from its end to its start.
 use mathlib.Core.Path.{_≡_, refl, ap, ap₂, sym, subst, subst₂, _∙_}
 use mathlib.Core.List.{List, [], _∷_, map}
@@ -14,9 +15,9 @@ use Rattle.layout.proofs.Clean.{top}
 use Rattle.layout.proofs.Points.{rooted-high}
 use Rattle.layout.proofs.Along.{Stretch, turn, run, Proper, ended, a-knee, an-ordinary, a-switch, Reached, along}
 use Rattle.layout.proofs.Heights.{PendingRow}
-use Rattle.layout.proofs.Spines.{light-spine, parts, proper}
+use Rattle.layout.proofs.Spines.{light-spine, parts, proper, spine-on}
 use Rattle.layout.proofs.Whole.{drawn, draw-parts}
-use Rattle.layout.proofs.Sides.{sideOn, spine-on}
+use Rattle.layout.proofs.Sides.{sideOn}
 use Rattle.layout.proofs.Apart.{sideOff, hungAt, SpineApart, Spread, narrow, narrow-spine, no-row, spread-join, rows-shift, in-shift, spread-put, flip-put}
 
 -- ---- along a spine

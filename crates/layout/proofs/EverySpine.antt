@@ -1,21 +1,22 @@
+-- For request 9 (no gaps, no shared rows); nothing cites it yet.
 -- THE LAW "no shared rows", for every spine of a drawing (`every-spine`): the spine of the whole tree, and that of each subtree that hangs from a spine node, at any depth. That every row
 -- holds a node is the theorem's `filled`.
-use mathlib.Core.Path.{_≡_, refl, ap, ap₂, sym, subst, _∙_}
+use mathlib.Core.Path.{_≡_, refl, sym, subst}
 use mathlib.Core.Bool.{Bool, true, false}
 use mathlib.Core.List.{List, [], _∷_, map}
-use Prim.Native.Nat.{ℕ, zero, suc, _+_, _-_, max}
+use Prim.Native.Nat.{ℕ, zero, suc, _+_, max}
 use native.Mathlib.Omega.{arith}
 use Rattle.segment.specs.declared.Point.{Point}
 use Rattle.table.specs.Table.{Side, left, right}
-use Rattle.table.specs.Tree.{Tree, none, node, size}
-use Rattle.layout.specs.Layout.{Layout, blank, placed, width, mirror}
+use Rattle.table.specs.Tree.{Tree, none, size}
+use Rattle.layout.specs.Layout.{Layout, blank, width, mirror}
 use Rattle.layout.specs.Spine.{SpineNode, hangs, Role, knee, handAfter}
 use Rattle.layout.specs.Drawing.{join, Rest, drawing, draw}
-use Rattle.layout.specs.inner.Held.{facing, inwards, put, hungOn, heightOn, widthOn, spineOn, roleNext, far, lay, widestOn, Frame, Fit, Inside, Rooms, no-rooms, knee-room, ordinary-room, switch-room}
-use Rattle.layout.proofs.Rows.{shape, mirror-twice}
+use Rattle.layout.specs.inner.Held.{facing, inwards, put, hungOn, heightOn, widthOn, spineOn, roleNext, far, lay, widestOn, Fit, Inside, Rooms, no-rooms, knee-room, ordinary-room, switch-room}
+use Rattle.layout.proofs.Rows.{shape}
 use Rattle.layout.proofs.Spines.{hungTree}
-use Rattle.layout.proofs.Theorem.{promise}
-use Rattle.layout.proofs.Held.{inside-less, rooms-law, hung-inside, inside-fits, hung-law, draw-hung}
+use Rattle.layout.proofs.Sides.{shape-hung}
+use Rattle.layout.proofs.Held.{inside-less, rooms-law, hung-inside, inside-fits, hung-law, draw-hung, some-inside, frame-from}
 use Rattle.layout.proofs.Apart.{sideOff, hungAt, SpineApart, each-hung}
 use Rattle.layout.proofs.ApartAlong.{apart}
 
@@ -55,10 +56,10 @@ hung-there : (B : ℕ) (a : Side) (e c t : ℕ) (S : Tree) → Inside B a e (c +
 unfolding widthOn
 hung-there B a e c t S i = record { e = inwards a e c; t = t; fit = inside-fits B a (inwards a e c) (draw (facing a S)) (hung-inside B a e c (widthOn a S) i); is = refl }
 
-no-tree : (a : Side) → HungSomewhere a none blank
+nothing-hung : (a : Side) → HungSomewhere a none blank
 unfolding hungOn put facing mirror draw drawing size width
-no-tree left = record { e = 0; t = 0; fit = tt; is = refl }
-no-tree right = record { e = 0; t = 0; fit = omega arith; is = refl }
+nothing-hung left = record { e = 0; t = 0; fit = tt; is = refl }
+nothing-hung right = record { e = 0; t = 0; fit = omega arith; is = refl }
 
 -- All that hangs from the nodes of a spine.
 record AllHung (a : Side) (o : Role) (ls : List SpineNode) (L : Layout) : Type 0 where
@@ -78,7 +79,7 @@ either false x y h i = i
 -- As a program lays it.
 laid-hung : (B W H r p : ℕ) {a : Side} {e f : ℕ} {o : Role} {ls : List SpineNode} → Rooms B W a e f o ls → AllHung a o ls (lay a e f o H r p ls .drawn)
 unfolding lay far join handAfter handAt treeAt hungAt
-laid-hung B W H r p (no-rooms {a}) = record { each = λ i. no-tree a }
+laid-hung B W H r p (no-rooms {a}) = record { each = λ i. nothing-hung a }
 laid-hung B W H r p (ordinary-room {a} {s} {e} {k} {S} i n) = hung-join k _ s (hung-there B a e 2 (r + 1) S i) (laid-hung B W (r + heightOn a S) (r + max 1 (heightOn a S)) p n)
 laid-hung B W H r p (switch-room {a} {s} {e} {k} {S} w i x n) =
     hung-join k _ s (hung-there B a e 1 (r + 1) S (inside-less B a e (omega arith) i)) (laid-hung B W (r + heightOn a S + p) (r + 1) 0 n)
@@ -86,22 +87,14 @@ laid-hung B W H r p (knee-room {a} {s} {e} {k} {S} i n) = either (far a s) _ _
     (hung-join k _ s (hung-there B a e 1 _ S i) (laid-hung B W (max H r + heightOn a S) (max H r + heightOn a S + 1) 0 n))
     (hung-join k _ s (hung-there B a e 1 _ S i) (laid-hung B W (max H r) (max H r + 1) (heightOn a S) n))
 
--- The other hand's edge, and columns enough.
-other : (s : Side) (e w : ℕ) → (f : ℕ) × Frame s e f w
-other left e w = (e + w, refl)
-other right e w = (e - w, λ h. omega arith)
-
-inside : (s : Side) (e : ℕ) (L : Layout) → Fit s e L → Inside (e + suc (width L)) s e (width L)
-inside left e L h = omega arith
-inside right e L h = (h, omega arith)
-
 all-hung : (s : Side) (e t : ℕ) (S : Tree) → Fit s e (draw (facing s S)) → AllHung s knee (spineOn s S) (hungOn s e t S)
 unfolding widthOn
 all-hung s e t S fit =
-    let z = other s e (widestOn s S + 2) in
+    let f = inwards s e (widestOn s S + 2) in
+    let z = frame-from s e (widestOn s S + 2) in
     let B = e + suc (widthOn s S) in
-    let c = rooms-law B s e (z .0) t S (z .1) (inside s e (draw (facing s S)) fit) in
-    subst (AllHung s knee (spineOn s S)) (sym (hung-law s e (z .0) t S (z .1) fit)) (laid-hung B (widestOn s S) t t 0 c)
+    let c = rooms-law B s e f t S z (some-inside s e (draw (facing s S)) fit) in
+    subst (AllHung s knee (spineOn s S)) (sym (hung-law s e f t S z fit)) (laid-hung B (widestOn s S) t t 0 c)
 
 hung-somewhere : {t : Tree} {s : Side} {S : Tree} {L : Layout} → DrawnIn t s S L → HungSomewhere s S L
 hung-somewhere {t} itself = record { e = 0; t = 0; fit = tt; is = draw-hung t }
@@ -109,25 +102,13 @@ hung-somewhere {t} (hung {s} {S} i d) =
     let z = hung-somewhere d in
     subst (AllHung s knee (spineOn s S)) (sym (z .is)) (all-hung s (z .e) (z .t) S (z .fit)) .each i
 
--- ---- the same records and links
-
-pub shape-put : (s : Side) (e t : ℕ) (L : Layout) → shape (put s e t L) ≡ facing s (shape L)
-unfolding shape put facing mirror
-shape-put left e t blank = refl
-shape-put right e t blank = refl
-shape-put left e t (placed k P a b) = ap₂ (node k) (shape-put left e t a) (shape-put left e t b)
-shape-put right e t (placed k P a b) = ap₂ (node k) (shape-put right e t b) (shape-put right e t a)
-
-pub facing-twice : (s : Side) (t : Tree) → facing s (facing s t) ≡ t
-unfolding facing
-facing-twice left t = refl
-facing-twice right t = mirror-twice t
+-- ---- the theorem
 
 pub every-spine : {t : Tree} {s : Side} {S : Tree} {L : Layout} → DrawnIn t s S L → NoSharedRows s S L
 unfolding hungOn
 every-spine {s} {S} d =
     let z = hung-somewhere d in
     subst (NoSharedRows s S) (sym (z .is)) (record {
-      same = shape-put s (z .e) (z .t) (draw (facing s S)) ∙ (ap (facing s) (promise (facing s S) .same) ∙ facing-twice s S);
+      same = shape-hung s (z .e) (z .t) S;
       apart = apart s (z .e) (z .t) S (z .fit);
     })

@@ -1,6 +1,6 @@
--- The drawing as a program makes it is the drawing: a subtree on a side (`hung-law`), and the whole tree, held by its left edge at column 0 (`draw-lay`). The first row below
+-- The drawing as a program makes it is the drawing: a subtree on a side (`hung-law`), and the whole tree is one that is held by its left edge at column 0 (`draw-hung`). The first row below
 -- it is counted along the spine (`bottom-law`), and every column that is needed on the way is there (`rooms-law`).
-use mathlib.Core.Path.{_≡_, refl, ap, sym, subst, _∙_}
+use mathlib.Core.Path.{_≡_, refl, ap, sym, _∙_}
 use mathlib.Core.List.{List, [], _∷_, map}
 use Prim.Native.Nat.{ℕ, suc, _+_, _≤_, max}
 use native.Mathlib.Omega.{arith}
@@ -15,10 +15,10 @@ use Rattle.layout.proofs.Motions.{width-shift, width-shifted, width-fli
 use Rattle.layout.proofs.Rows.{shape, count, size-facing}
 use Rattle.layout.proofs.Steps.{wide-join}
 use Rattle.layout.proofs.Heights.{last}
-use Rattle.layout.proofs.Spines.{spineTree, Light, light-end, light-node, light-spine, light-seen, size-seen, Goes, goes-on, parts}
+use Rattle.layout.proofs.Spines.{spineTree, Light, light-end, light-node, size-seen, Goes, goes-on, parts, light-on, knee-wide}
 use Rattle.layout.proofs.Whole.{draw-rows}
 use Rattle.layout.proofs.Theorem.{promise}
-use Rattle.layout.proofs.Sides.{sideOn, spine-on, partsOn, parts-on, draw-on, put-flip, held-join, same-node}
+use Rattle.layout.proofs.Sides.{sideOn, partsOn, parts-on, draw-on, put-flip, held-join, same-node}
 
 -- ---- a spine as it stands, and its parts
 
@@ -47,9 +47,6 @@ unfolding rolesOn handAfter
 told-on s light-end = ended
 told-on s (light-node {l} f g i) = tell-one s knee l tt (tell s knee i)
 
-light-on : (s : Side) (S : Tree) → Light (size (facing s S)) (spineOn s S)
-light-on s S = light-seen (size (facing s S)) s (spineOn s S) (subst (Light (size (facing s S))) (spine-on s S) (light-spine (size (facing s S)) (facing s S) (omega arith)))
-
 -- ---- rows and columns along a spine
 
 pub inside-less : (B : ℕ) (a : Side) (e : ℕ) {v w : ℕ} → v ≤ w → Inside B a e w → Inside B a e v
@@ -70,16 +67,11 @@ place-wide W H r p (part switch k s D ∷ ps) w =
     let N = place W (r + height D + p) (r + 1) 0 ps .drawn in
     omega (arith, wide-join k (at 1 r) s (shift 1 (r + 1) D) (flip (W + 2) N), width-flip (W + 2) N, width-shift 1 (r + 1) D)
 
--- After a switch comes a knee, in column 0, so that the flipped rest is as wide as the frame.
-knee-wide : (W H r p k : ℕ) (s : Side) (D : Layout) (ps : List Part) → W + 3 ≤ width (flip (W + 2) (place W H r p (part knee k s D ∷ ps) .drawn))
-unfolding place flip width
-knee-wide W H r p k left D ps = omega arith
-knee-wide W H r p k right D ps = omega arith
-
-turned-wide : (W H r p : ℕ) {a : Side} {ls : List SpineNode} {ps : List Part} → 1 ≤ size (spineTree ls) → Told a (roleNext a switch ls) ls ps → W + 3 ≤ width (flip (W + 2) (place W H r p ps .drawn))
+-- After a switch comes a knee, so that the flipped rest is as wide as the frame.
+told-wide : (W H r p : ℕ) {a : Side} {ls : List SpineNode} {ps : List Part} → 1 ≤ size (spineTree ls) → Told a (roleNext a switch ls) ls ps → W + 3 ≤ width (flip (W + 2) (place W H r p ps .drawn))
 unfolding roleNext roleAfter spineTree size
-turned-wide W H r p g ended = absurd (omega arith)
-turned-wide W H r p g (told {a} {s} {k} {S} {ps} h z) = knee-wide W H r p k (sideOn a s) (draw (facing a S)) ps
+told-wide W H r p g ended = absurd (omega arith)
+told-wide W H r p g (told {a} {s} {k} {S} {ps} h z) = omega (arith, knee-wide W H r p k (sideOn a s) (draw (facing a S)) ps)
 
 -- The other hand's edge, where the frame is among the columns; the frame from there.
 exact : (B W : ℕ) (a : Side) (e f : ℕ) → Frame a e f (W + 2) → Inside B a e (W + 3) → Exact a e f (W + 2)
@@ -129,7 +121,7 @@ module _ (B W t : ℕ) where
       let D = draw (facing a S) in
       let N = place W (r + height D + p) (r + 1) 0 ps .drawn in
       let v = wide-join k (at 1 r) (sideOn a s) (shift 1 (r + 1) D) (flip (W + 2) N) in
-      let i′ = inside-less B a e {v = W + 3} (omega (arith, v, turned-wide W (r + height D + p) (r + 1) 0 g z)) i in
+      let i′ = inside-less B a e {v = W + 3} (omega (arith, v, told-wide W (r + height D + p) (r + 1) 0 g z)) i in
       let x = exact B W a e f fr i′ in
       let wD : widthOn a S ≤ W = omega arith in
       let wN = place-wide W (r + height D + p) (r + 1) 0 ps (omega arith) in
@@ -187,7 +179,7 @@ module _ (B W t : ℕ) where
 module _ (B : ℕ) (s : Side) (e f t : ℕ) (S : Tree) (fr : Frame s e f (widestOn s S + 2)) (i : Inside B s e (widthOn s S)) where
   all-laid : Laid B (widestOn s S) t s e f knee t t 0 (spineOn s S) 0 0 (partsOn s S)
   unfolding widestOn widthOn
-  all-laid = laid B (widestOn s S) t s e f (widthOn s S) fr i (told-on s (light-on s S)) 0 t 0 t 0 (omega arith) (omega arith) (omega arith) (omega (arith, ap width (draw-on s S)))
+  all-laid = laid B (widestOn s S) t s e f (widthOn s S) fr i (told-on s (light-on (size S) s S (omega arith))) 0 t 0 t 0 (omega arith) (omega arith) (omega arith) (omega (arith, ap width (draw-on s S)))
 
   pub rooms-law : Rooms B (widestOn s S) s e f knee (spineOn s S)
   rooms-law = all-laid .rooms
@@ -202,9 +194,14 @@ pub inside-fits : (B : ℕ) (a : Side) (e : ℕ) (L : Layout) → Inside B a e (
 inside-fits B left e L i = tt
 inside-fits B right e L i = i .0
 
-some-inside : (s : Side) (e : ℕ) (L : Layout) → Fit s e L → Inside (e + suc (width L)) s e (width L)
+pub some-inside : (s : Side) (e : ℕ) (L : Layout) → Fit s e L → Inside (e + suc (width L)) s e (width L)
 some-inside left e L h = omega arith
 some-inside right e L h = (h, omega arith)
+
+pub frame-from : (s : Side) (e w : ℕ) → Frame s e (inwards s e w) w
+unfolding inwards
+frame-from left e w = refl
+frame-from right e w = λ h. omega arith
 
 pub hung-law : (s : Side) (e f t : ℕ) (S : Tree) → Frame s e f (widestOn s S + 2) → Fit s e (draw (facing s S)) → hungOn s e t S ≡ lay s e f knee t t 0 (spineOn s S) .drawn
 unfolding hungOn widestOn widthOn
@@ -220,24 +217,13 @@ pub draw-hung : (t : Tree) → draw t ≡ hungOn left 0 0 t
 unfolding hungOn facing
 draw-hung t = sym (put-home (draw t))
 
-pub draw-lay : (t : Tree) → draw t ≡ lay left 0 (widestOn left t + 2) knee 0 0 0 (spineOn left t) .drawn
-draw-lay t = draw-hung t ∙ hung-law left 0 (widestOn left t + 2) 0 t (omega arith) tt
-
 pub height-size : (s : Side) (S : Tree) → heightOn s S ≤ size S
 unfolding heightOn
 height-size s S = omega (arith, promise (facing s S) .short, size-facing s S)
 
--- A frame with room.
-record Framed (s : Side) (w v : ℕ) : Type 0 where
-  e : ℕ
-  f : ℕ
-  B : ℕ
-  frame : Frame s e f w
-  inside : Inside B s e v
-
-framed : (s : Side) (w v : ℕ) → Framed s w v
-framed left w v = record { e = 0; f = w; B = v; frame = omega arith; inside = omega arith }
-framed right w v = record { e = v + w; f = v; B = suc (v + w); frame = λ h. refl; inside = (omega arith, omega arith) }
+fits-itself : (s : Side) (L : Layout) → Fit s (width L) L
+fits-itself left L = tt
+fits-itself right L = omega arith
 
 some-height : (L : Layout) → 1 ≤ count L → 1 ≤ height L
 unfolding shape size height
@@ -246,10 +232,10 @@ some-height (placed k P a b) h = omega arith
 
 -- The first row below the drawing of a tree on a side, from the row t on.
 pub bottom-law : (s : Side) (t : ℕ) (S : Tree) → 1 ≤ size S → bottom s knee t t 0 (spineOn s S) ≡ t + heightOn s S
-unfolding heightOn
+unfolding heightOn widthOn
 bottom-law s t S h =
-    let z = framed s (widestOn s S + 2) (widthOn s S) in
+    let D = draw (facing s S) in
     let r = draw-rows (facing s S) in
-    let n = all-laid (z .B) s (z .e) (z .f) t S (z .frame) (z .inside) in
-    let c = some-height (draw (facing s S)) (omega (arith, ap size (promise (facing s S) .same), size-facing s S)) in
-    omega (arith, n .lowest, ap (last 0 0 0) (parts-on s S), r .fits, r .least (height (draw (facing s S))) (omega arith) c)
+    let n = all-laid (width D + suc (width D)) s (width D) (inwards s (width D) (widestOn s S + 2)) t S (frame-from s (width D) (widestOn s S + 2)) (some-inside s (width D) D (fits-itself s D)) in
+    let c = some-height D (omega (arith, ap size (promise (facing s S) .same), size-facing s S)) in
+    omega (arith, n .lowest, ap (last 0 0 0) (parts-on s S), r .fits, r .least (height D) (omega arith) c)

@@ -4,7 +4,6 @@ pub mod Clean
 pub mod Points
 pub mod Meet
 pub mod Motions
-pub mod CleanMotions
 pub mod Rows
 pub mod Steps
 pub mod Along

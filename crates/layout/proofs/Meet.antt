@@ -6,15 +6,16 @@ use native.Mathlib.Nat.{mul-le-mul-left}
 use native.Mathlib.Omega.{arith}
 use Rattle.segment.specs.declared.Point.{Point}
 use Rattle.segment.specs.Segment.{Is}
+use Rattle.segment.proofs.Weights.{Weights, weights, weighed, at-start, at-end, at-point}
 use Rattle.table.specs.Table.{Side, left, right}
 use Rattle.layout.specs.Layout.{Layout, placed}
 use Rattle.layout.proofs.Clean.{onSide, HasRoot, a-root, Kind, Piece, root, edge, below, Node, Edge, top, point, parent, child, side, Ends, Before, Clean}
-use Rattle.layout.proofs.Points.{Between, between, itself, at-itself, weighed, at-end, falls, Along, pointOn, EdgeTo, Lower, Order, Untangled, fork, low, untangled, deep, low-top, under-top}
+use Rattle.layout.proofs.Points.{falls, Along, pointOn, EdgeTo, Lower, Order, Untangled, fork, low, untangled, deep, low-top, under-top}
 
 -- ---- pairs of pieces
 
 -- Two edges from one node share only that node.
-from-one : {P A B : Point} {q x y : ℕ} → Before P A B → Between P A q x y → Between P B q x y → Is P q x y
+from-one : {P A B : Point} {q x y : ℕ} → Before P A B → Weights P A q x y → Weights P B q x y → Is P q x y
 from-one {P} {A} {B} t m n = at-end n (omega (
   arith,
   mul-le-mul-left (n .v) t,
@@ -40,7 +41,7 @@ ends-root c a-root one (edge s h) m e = inl refl
 ends-root (fork {P} c d j o) a-root one (below s p) m e = absurd (omega (arith, e .in-row, deep (untangled c d s) (P .row) (low j s) (pointOn p m)))
 
 -- The edge to the root of a drawing, and a piece of the drawing, share only the root.
-at-top : {P : Point} {L : Layout} {c : Kind} {q x y : ℕ} → Untangled L → Lower (P .row) L → (h : HasRoot L) → 1 ≤ q → Between P (point (top h)) q x y →
+at-top : {P : Point} {L : Layout} {c : Kind} {q x y : ℕ} → Untangled L → Lower (P .row) L → (h : HasRoot L) → 1 ≤ q → Weights P (point (top h)) q x y →
     (p : Piece c L) → Along p q x y → Ends (top h) p × Is (point (top h)) q x y
 at-top {P} {L} {q} {x} {y} c l h one m p n = (ends-root c h one p n e, e)
   where
@@ -72,16 +73,16 @@ met-below s (common n e f i) = common (below s n) (⊎-map (ap (below s)) (ap (b
 
 -- The edge to the child on a side, and a piece of the subtree there.
 edge-meets : {k : ℕ} {P : Point} {a b : Layout} {c : Kind} {q x y : ℕ} → Untangled (placed k P a b) → (s : Side) (h : HasRoot (onSide s a b)) (r : Piece c (onSide s a b)) →
-    1 ≤ q → Between P (point (top h)) q x y → Along r q x y → Meet (edge {k = k} {P = P} {a = a} {b = b} s h) (below {k = k} {P = P} {a = a} {b = b} s r) q x y
+    1 ≤ q → Weights P (point (top h)) q x y → Along r q x y → Meet (edge {k = k} {P = P} {a = a} {b = b} s h) (below {k = k} {P = P} {a = a} {b = b} s r) q x y
 edge-meets (fork c d j o) s h r one m n =
     let z = at-top (untangled c d s) (low j s) h one m r n in
     common (below s (top h)) (inr refl) (⊎-map (ap (below s)) (ap (below s)) (z .0)) (z .1)
 
-root-meets : {k : ℕ} {P : Point} {a b : Layout} {d : Kind} {q x y : ℕ} → Untangled (placed k P a b) → (r : Piece d (placed k P a b)) → 1 ≤ q → Between P P q x y → Along r q x y →
+root-meets : {k : ℕ} {P : Point} {a b : Layout} {d : Kind} {q x y : ℕ} → Untangled (placed k P a b) → (r : Piece d (placed k P a b)) → 1 ≤ q → Weights P P q x y → Along r q x y →
     Meet (root {k = k} {P = P} {a = a} {b = b}) r q x y
-root-meets c r one m n = common root (inl refl) (ends-root c a-root one r n (at-itself m)) (at-itself m)
+root-meets c r one m n = common root (inl refl) (ends-root c a-root one r n (at-point m refl)) (at-point m refl)
 
-edgeTo : {P : Point} {L : Layout} {q x y : ℕ} (h : HasRoot L) → Between P (point (top h)) q x y → EdgeTo P q x y L
+edgeTo : {P : Point} {L : Layout} {q x y : ℕ} (h : HasRoot L) → Weights P (point (top h)) q x y → EdgeTo P q x y L
 edgeTo h m = record { has = h; on = m }
 
 meet : {L : Layout} {c d : Kind} {q x y : ℕ} → Untangled L → (p : Piece c L) (r : Piece d L) → 1 ≤ q → Along p q x y → Along r q x y → Meet p r q x y
@@ -113,7 +114,7 @@ node-ends (below s n) = (ap (below s) (node-ends n .0), ap (below s) (node-ends 
 
 -- A node as a piece on which its own point is.
 along-node : {L : Layout} (n : Node L) (q : ℕ) → Along n q (q * point n .column) (q * point n .row)
-along-node n q = rw (node-ends n .0, node-ends n .1) (itself (point n) q)
+along-node n q = rw (node-ends n .0, node-ends n .1) (weights (at-start (point n) (point n) q))
 
 only-end : {L : Layout} {n m : Node L} → Ends n m → n ≡ m
 only-end {m} (inl e) = e ∙ node-ends m .0
@@ -159,7 +160,7 @@ pub untangled-clean : {L : Layout} → Untangled L → Clean L
 untangled-clean c = record {
   distinct = distinct c;
   lower = lower c;
-  planar = λ l m d q x y one u v. share-end d (meet c l m one (between u) (between v));
-  clear = λ n l q one u. lies-at-end (meet c n l one (along-node n q) (between u));
+  planar = λ l m d q x y one u v. share-end d (meet c l m one (weights u) (weights v));
+  clear = λ n l q one u. lies-at-end (meet c n l one (along-node n q) (weights u));
   ordered = ordered c;
 }

@@ -5,23 +5,24 @@ use Prim.Native.Nat.{ℕ, suc, _+_, _*_, _-_, _≤_}
 use native.Mathlib.Omega.{arith}
 use Rattle.segment.specs.declared.Point.{Point}
 use Rattle.segment.specs.Segment.{at}
+use Rattle.segment.proofs.Weights.{Weights, weighed}
 use Rattle.table.specs.Table.{left, right}
 use Rattle.layout.specs.Layout.{Layout, blank, placed, width, height, shift, flip}
 use Rattle.layout.proofs.Clean.{HasRoot, a-root, Kind, Piece, root, edge, below, Node, top, point, Before}
-use Rattle.layout.proofs.Points.{Between, weighed, Along, PointOf, pointOn, EdgeTo, point-edge, point-below, Lower, RootAt, Order, exchange, Untangled, bare, fork, NodeInWindow, InWindow, point-within}
+use Rattle.layout.proofs.Points.{Along, PointOf, pointOn, EdgeTo, point-edge, point-below, Lower, RootAt, Order, exchange, Untangled, bare, fork, NodeInWindow, InWindow, point-within}
 
 -- ---- shift
 
-between-shifted : {P Q : Point} {q x y : ℕ} (e t : ℕ) → Between (at (e + P .column) (t + P .row)) (at (e + Q .column) (t + Q .row)) q x y → Between P Q q (x - q * e) (y - q * t)
-between-shifted e t m = record { u = m .u; v = m .v; sum = m .sum; in-column = omega (arith, m .in-column, weighed m e); in-row = omega (arith, m .in-row, weighed m t) }
+weights-shifted : {P Q : Point} {q x y : ℕ} (e t : ℕ) → Weights (at (e + P .column) (t + P .row)) (at (e + Q .column) (t + Q .row)) q x y → Weights P Q q (x - q * e) (y - q * t)
+weights-shifted e t m = record { u = m .u; v = m .v; sum = m .sum; in-column = omega (arith, m .in-column, weighed m e); in-row = omega (arith, m .in-row, weighed m t) }
 
-edge-shifted : {P : Point} {q x y : ℕ} (e t : ℕ) (L : Layout) (h : HasRoot (shift e t L)) → Between (at (e + P .column) (t + P .row)) (point (top h)) q x y → EdgeTo P q (x - q * e) (y - q * t) L
+edge-shifted : {P : Point} {q x y : ℕ} (e t : ℕ) (L : Layout) (h : HasRoot (shift e t L)) → Weights (at (e + P .column) (t + P .row)) (point (top h)) q x y → EdgeTo P q (x - q * e) (y - q * t) L
 unfolding shift
-edge-shifted e t (placed k Q a b) a-root m = record { has = a-root; on = between-shifted e t m }
+edge-shifted e t (placed k Q a b) a-root m = record { has = a-root; on = weights-shifted e t m }
 
 piece-shifted : {c : Kind} {q x y : ℕ} (e t : ℕ) (L : Layout) (p : Piece c (shift e t L)) → Along p q x y → PointOf q (x - q * e) (y - q * t) L
 unfolding shift
-piece-shifted e t (placed k P a b) root m = pointOn root (between-shifted e t m)
+piece-shifted e t (placed k P a b) root m = pointOn root (weights-shifted e t m)
 piece-shifted e t (placed k P a b) (edge left h) m = point-edge left (edge-shifted e t a h m)
 piece-shifted e t (placed k P a b) (edge right h) m = point-edge right (edge-shifted e t b h m)
 piece-shifted e t (placed k P a b) (below left p) m = point-below left (piece-shifted e t a p m)
@@ -92,19 +93,19 @@ root-shift e t (placed k P a b) h = ap₂ at (omega (arith, ap (λ (Q : Point). 
 -- ---- flip
 
 module _ (e : ℕ) where
-  between-flipped : {P Q : Point} {q x y : ℕ} → P .column ≤ e → Q .column ≤ e → Between (at (e - P .column) (P .row)) (at (e - Q .column) (Q .row)) q x y → Between P Q q (q * e - x) y
-  between-flipped {P} {Q} h k m =
+  weights-flipped : {P Q : Point} {q x y : ℕ} → P .column ≤ e → Q .column ≤ e → Weights (at (e - P .column) (P .row)) (at (e - Q .column) (Q .row)) q x y → Weights P Q q (q * e - x) y
+  weights-flipped {P} {Q} h k m =
       let f : e - P .column + P .column ≡ e = omega arith in
       let g : e - Q .column + Q .column ≡ e = omega arith in
       record { u = m .u; v = m .v; sum = m .sum; in-column = omega (arith, m .in-column, weighed m e, ap (λ (n : ℕ). m .u * n) f, ap (λ (n : ℕ). m .v * n) g); in-row = m .in-row }
 
-  edge-flipped : {P : Point} {q x y : ℕ} → P .column ≤ e → (L : Layout) → width L ≤ suc e → (h : HasRoot (flip e L)) → Between (at (e - P .column) (P .row)) (point (top h)) q x y → EdgeTo P q (q * e - x) y L
+  edge-flipped : {P : Point} {q x y : ℕ} → P .column ≤ e → (L : Layout) → width L ≤ suc e → (h : HasRoot (flip e L)) → Weights (at (e - P .column) (P .row)) (point (top h)) q x y → EdgeTo P q (q * e - x) y L
   unfolding flip width
-  edge-flipped h (placed k Q a b) w a-root m = record { has = a-root; on = between-flipped h (omega arith) m }
+  edge-flipped h (placed k Q a b) w a-root m = record { has = a-root; on = weights-flipped h (omega arith) m }
 
   piece-flipped : {c : Kind} {q x y : ℕ} (L : Layout) → width L ≤ suc e → (p : Piece c (flip e L)) → Along p q x y → PointOf q (q * e - x) y L
   unfolding flip width
-  piece-flipped (placed k P a b) w root m = pointOn root (between-flipped (omega arith) (omega arith) m)
+  piece-flipped (placed k P a b) w root m = pointOn root (weights-flipped (omega arith) (omega arith) m)
   piece-flipped (placed k P a b) w (edge left h) m = point-edge right (edge-flipped (omega arith) b (omega arith) h m)
   piece-flipped (placed k P a b) w (edge right h) m = point-edge left (edge-flipped (omega arith) a (omega arith) h m)
   piece-flipped (placed k P a b) w (below left p) m = point-below right (piece-flipped b (omega arith) p m)

@@ -1,47 +1,17 @@
 -- The points of a drawing, and `Untangled`: the form of 21 to 24 in which the argument goes, by induction over the layout.
--- An untangled drawing has its root alone in its top row (`under-top`), and a drawing's points are in the rectangle of its nodes (`point-within`).
+-- An untangled drawing has its root alone in its top row (`under-top`), and a drawing's points are in the rectangle of its nodes (`point-within`). Rests on the
+-- weights of a point of a segment.
 use mathlib.Core.Path.{_≡_, ap, subst, _∙_}
-use Prim.Native.Nat.{ℕ, suc, _+_, _*_, _-_, _≤_, _<_}
+use Prim.Native.Nat.{ℕ, suc, _+_, _*_, _≤_, _<_}
 use native.Mathlib.Nat.{mul-le-mul-left}
 use native.Mathlib.Omega.{arith}
 use Rattle.segment.specs.declared.Point.{Point}
-use Rattle.segment.specs.Segment.{On, Is}
+use Rattle.segment.proofs.Weights.{Weights, turned, weighed, at-end}
 use Rattle.table.specs.Table.{Side, left, right}
 use Rattle.layout.specs.Layout.{Layout, blank, placed, height}
 use Rattle.layout.proofs.Clean.{onSide, HasRoot, a-root, Kind, Piece, root, edge, below, Node, top, point, parent, child, Before}
 
 -- ---- points of a segment
-
--- `On` with the weights u = q − s and v = s of the two ends.
-pub record Between (P Q : Point) (q x y : ℕ) : Type 0 where
-  pub u : ℕ
-  pub v : ℕ
-  pub sum : u + v ≡ q
-  pub in-column : x ≡ u * P .column + v * Q .column
-  pub in-row : y ≡ u * P .row + v * Q .row
-
-pub between : {P Q : Point} {q x y : ℕ} → On P Q q x y → Between P Q q x y
-between {q} o = record { u = q - o .s; v = o .s; sum = let h : o .s ≤ q = o .s≤q in omega arith; in-column = o .at-column; in-row = o .at-row }
-
-pub itself : (P : Point) (q : ℕ) → Between P P q (q * P .column) (q * P .row)
-itself P q = record { u = q; v = 0; sum = omega arith; in-column = omega arith; in-row = omega arith }
-
--- q times a number, by the weights.
-pub weighed : {P Q : Point} {q x y : ℕ} (m : Between P Q q x y) (n : ℕ) → m .u * n + m .v * n ≡ q * n
-weighed m n = omega (arith, ap (λ (i : ℕ). i * n) (m .sum))
-
-pub at-itself : {P : Point} {q x y : ℕ} → Between P P q x y → Is P q x y
-at-itself {P} m = record { in-column = m .in-column ∙ weighed m (P .column); in-row = m .in-row ∙ weighed m (P .row) }
-
--- Without weight at Q the point is P.
-pub at-end : {P Q : Point} {q x y : ℕ} (m : Between P Q q x y) → m .v ≡ 0 → Is P q x y
-at-end {P} {Q} m e = record {
-  in-column = omega (arith, m .in-column, weighed m (P .column), ap (λ (i : ℕ). i * P .column) e, ap (λ (i : ℕ). i * Q .column) e);
-  in-row = omega (arith, m .in-row, weighed m (P .row), ap (λ (i : ℕ). i * P .row) e, ap (λ (i : ℕ). i * Q .row) e);
-}
-
-abbrev back : {P Q : Point} {q x y : ℕ} → Between P Q q x y → Between Q P q x y
-back m = record { u = m .v; v = m .u; sum = omega (arith, m .sum); in-column = omega (arith, m .in-column); in-row = omega (arith, m .in-row) }
 
 -- A point of a segment that falls is between the rows of its ends, and in the row of an end only at that end.
 pub record Falls (P Q : Point) (q x y : ℕ) : Type 0 where
@@ -50,18 +20,18 @@ pub record Falls (P Q : Point) (q x y : ℕ) : Type 0 where
   pub start : y ≤ q * P .row → x ≡ q * P .column
   pub stop : q * Q .row ≤ y → x ≡ q * Q .column
 
-pub falls : {P Q : Point} {q x y : ℕ} → P .row < Q .row → Between P Q q x y → Falls P Q q x y
+pub falls : {P Q : Point} {q x y : ℕ} → P .row < Q .row → Weights P Q q x y → Falls P Q q x y
 falls {P} {Q} h m = record {
   over = omega (arith, mul-le-mul-left (m .v) h, m .in-row, weighed m (P .row));
   above = omega (arith, mul-le-mul-left (m .u) h, m .in-row, weighed m (Q .row));
   start = λ l. at-end m (omega (arith, mul-le-mul-left (m .v) h, m .in-row, weighed m (P .row))) .in-column;
-  stop = λ l. at-end (back m) (omega (arith, mul-le-mul-left (m .u) h, m .in-row, weighed m (Q .row))) .in-column;
+  stop = λ l. at-end (turned m) (omega (arith, mul-le-mul-left (m .u) h, m .in-row, weighed m (Q .row))) .in-column;
 }
 
 -- ---- points of a drawing
 
 abbrev pub Along : {c : Kind} {L : Layout} → Piece c L → (q x y : ℕ) → Type 0
-Along p q x y = Between (point (parent p)) (point (child p)) q x y
+Along p q x y = Weights (point (parent p)) (point (child p)) q x y
 
 -- (x, y) / q is a point of the drawing.
 pub record PointOf (q x y : ℕ) (L : Layout) : Type 0 where
@@ -87,7 +57,7 @@ point-rooted t = piece-rooted (t .piece)
 -- (x, y) / q is a point of the edge from P to the root of a drawing.
 pub record EdgeTo (P : Point) (q x y : ℕ) (L : Layout) : Type 0 where
   pub has : HasRoot L
-  pub on : Between P (point (top has)) q x y
+  pub on : Weights P (point (top has)) q x y
 
 pub point-edge : {k : ℕ} {P : Point} {q x y : ℕ} {a b : Layout} (s : Side) → EdgeTo P q x y (onSide s a b) → PointOf q x y (placed k P a b)
 point-edge s e = pointOn (edge s (e .has)) (e .on)
@@ -185,8 +155,8 @@ low-at {L} {m} {Q} z l = go L (z .root)
     go blank h = tt
     go (placed k P a b) h = omega (arith, ap (λ (R : Point). R .row) h)
 
-pub edge-at : {L : Layout} {P Q : Point} {q x y : ℕ} → UntangledAt Q L → EdgeTo P q x y L → Between P Q q x y
-edge-at {P} {Q} {q} {x} {y} z e = subst (λ (R : Point). Between P R q x y) (top-at Q (z .root) (e .has)) (e .on)
+pub edge-at : {L : Layout} {P Q : Point} {q x y : ℕ} → UntangledAt Q L → EdgeTo P q x y L → Weights P Q q x y
+edge-at {P} {Q} {q} {x} {y} z e = subst (λ (R : Point). Weights P R q x y) (top-at Q (z .root) (e .has)) (e .on)
 
 pub under-at : {L : Layout} {Q : Point} {q x y : ℕ} → UntangledAt Q L → 1 ≤ q → PointOf q x y L → Under Q q x y
 under-at {Q} {q} {x} {y} z one t = let r = point-rooted t in subst (λ (R : Point). Under R q x y) (top-at Q (z .root) r) (under-top (z .untangled) r one t)
@@ -215,7 +185,7 @@ NodeInWindow e w t h n = InWindow e w t h 1 (point n .column) (point n .row)
 pub point-within : (e w t h : ℕ) {q x y : ℕ} {L : Layout} → ((n : Node L) → NodeInWindow e w t h n) → PointOf q x y L → InWindow e w t h q x y
 point-within e w t h {q} {x} {y} all z = go (all (parent (z .piece))) (all (child (z .piece))) (z .on)
   where
-    go : {P Q : Point} → InWindow e w t h 1 (P .column) (P .row) → InWindow e w t h 1 (Q .column) (Q .row) → Between P Q q x y → InWindow e w t h q x y
+    go : {P Q : Point} → InWindow e w t h 1 (P .column) (P .row) → InWindow e w t h 1 (Q .column) (Q .row) → Weights P Q q x y → InWindow e w t h q x y
     go i j m = record {
       from-column = omega (arith, m .in-column, mul-le-mul-left (m .u) (i .from-column), mul-le-mul-left (m .v) (j .from-column), weighed m e);
       to-column = omega (arith, m .in-column, m .sum, mul-le-mul-left (m .u) (i .to-column), mul-le-mul-left (m .v) (j .to-column), weighed m (e + w));

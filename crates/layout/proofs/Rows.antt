@@ -36,6 +36,11 @@ unfolding facing
 size-facing left t = refl
 size-facing right t = size-mirror t
 
+pub facing-twice : (s : Side) (t : Tree) → facing s (facing s t) ≡ t
+unfolding facing
+facing-twice left t = refl
+facing-twice right t = mirror-twice t
+
 pub shape-shift : (e t : ℕ) (L : Layout) → shape (shift e t L) ≡ shape L
 unfolding shift shape
 shape-shift e t blank = refl

@@ -1,24 +1,18 @@
--- A drawing on a side, from the tree as it stands: its spine (`spine-on`), its parts (`parts-on`, `draw-on`). A drawing held by its right edge is that of the
--- mirror image, flipped and shifted (`put-held`).
-use mathlib.Core.Path.{_≡_, refl, ap, sym, subst, subst₂, _∙_}
-use mathlib.Core.Bool.{Bool, true, false}
+-- A drawing on a side, from the tree as it stands: its parts (`parts-on`, `draw-on`), and its records and links (`shape-hung`). A drawing held by its right edge is that of
+-- the mirror image, flipped and shifted (`put-held`).
+use mathlib.Core.Path.{_≡_, refl, ap, _∙_, ap₂}
 use mathlib.Core.List.{List, [], _∷_, map}
 use Prim.Native.Nat.{ℕ, suc, _+_, _≤_}
 use native.Mathlib.Omega.{arith}
-use lib.Dec.{leb}
 use Rattle.segment.specs.Segment.{at}
 use Rattle.table.specs.Table.{Side, left, right}
 use Rattle.table.specs.Tree.{Tree, none, node, size}
-use Rattle.layout.specs.Layout.{Layout, blank, placed, width, shift, flip, mirror}
+use Rattle.layout.specs.Layout.{Layout, blank, placed, width, shift, flip, mirror, height}
 use Rattle.layout.specs.Spine.{SpineNode, hangs, spine, Role, knee, ordinary, switch, opposite, seen, roleAfter, handAfter, Assigned, assigned, rolesAfter}
-use Rattle.layout.specs.Drawing.{Part, hang, join, draw}
-use Rattle.layout.specs.inner.Held.{facing, inwards, put, hungOn, spineOn, rolesOn, Fit, Exact}
-use Rattle.layout.proofs.Clean.{Clean}
-use Rattle.layout.proofs.Points.{Untangled}
-use Rattle.layout.proofs.Meet.{untangled-clean}
-use Rattle.layout.proofs.Motions.{untangled-shift, untangled-flip}
-use Rattle.layout.proofs.Rows.{mirror-twice, size-mirror}
-use Rattle.layout.proofs.Spines.{parts}
+use Rattle.layout.specs.Drawing.{Part, hang, join, draw, drawing}
+use Rattle.layout.specs.inner.Held.{facing, inwards, put, hungOn, spineOn, rolesOn, Exact, heightOn, widthOn}
+use Rattle.layout.proofs.Rows.{mirror-twice, shape, facing-twice}
+use Rattle.layout.proofs.Spines.{parts, spine-on}
 use Rattle.layout.proofs.Whole.{drawn, whole, draw-parts}
 
 -- ---- the spine and its roles, from the tree as it stands
@@ -27,27 +21,6 @@ use Rattle.layout.proofs.Whole.{drawn, whole, draw-parts}
 unfoldable pub sideOn : Side → Side → Side
 sideOn left s = s
 sideOn right s = opposite s
-
-pub spine-on : (s : Side) (t : Tree) → spine (facing s t) ≡ map (seen s) (spineOn s t)
-unfolding spine spineOn facing mirror seen opposite
-spine-on left none = refl
-spine-on right none = refl
-spine-on left (node k a b) = go (leb (size b) (size a)) (spine-on left a) (spine-on left b)
-  where
-    go : (c : Bool) → spine a ≡ map (seen left) (spineOn left a) → spine b ≡ map (seen left) (spineOn left b) →
-        _≡_ {A = List SpineNode} (elim c [ true ↦ hangs k right b ∷ spine a | false ↦ hangs k left a ∷ spine b ])
-        (map (seen left) (elim c [ true ↦ hangs k right b ∷ spineOn left a | false ↦ hangs k left a ∷ spineOn left b ]))
-    go true h i = ap (λ (ls : List SpineNode). hangs k right b ∷ ls) h
-    go false h i = ap (λ (ls : List SpineNode). hangs k left a ∷ ls) i
-spine-on right (node k a b) = subst₂ (λ (m n : ℕ). _≡_ {A = List SpineNode} (elim (leb m n) [ true ↦ hangs k right (mirror a) ∷ spine (mirror b) | false ↦ hangs k left (mirror b) ∷ spine (mirror a) ])
-    (map (seen right) (elim (leb (size a) (size b)) [ true ↦ hangs k left a ∷ spineOn right b | false ↦ hangs k right b ∷ spineOn right a ])))
-    (sym (size-mirror a)) (sym (size-mirror b)) (go (leb (size a) (size b)) (spine-on right a) (spine-on right b))
-  where
-    go : (c : Bool) → spine (mirror a) ≡ map (seen right) (spineOn right a) → spine (mirror b) ≡ map (seen right) (spineOn right b) →
-        _≡_ {A = List SpineNode} (elim c [ true ↦ hangs k right (mirror a) ∷ spine (mirror b) | false ↦ hangs k left (mirror b) ∷ spine (mirror a) ])
-        (map (seen right) (elim c [ true ↦ hangs k left a ∷ spineOn right b | false ↦ hangs k right b ∷ spineOn right a ]))
-    go true h i = ap (λ (ls : List SpineNode). hangs k right (mirror a) ∷ ls) i
-    go false h i = ap (λ (ls : List SpineNode). hangs k left (mirror b) ∷ ls) h
 
 seen-twice : (u s : Side) (l : SpineNode) → seen s (seen u l) ≡ seen (sideOn u s) l
 unfolding seen sideOn opposite
@@ -73,8 +46,14 @@ roles-seen u s o (l ∷ ls) =
         _≡_ {A = List Assigned} (assigned (roleAfter o m) m ∷ rolesAfter (handAfter o s) (roleAfter o m) (map (seen u) ls)) (assigned (roleAfter o n) n ∷ rolesAfter (handAfter o (sideOn u s)) (roleAfter o n) ls)
     heads {n} e h = rw e (ap (λ (rs : List Assigned). assigned (roleAfter o n) n ∷ rs) (h (roleAfter o n)))
 
-first-on : (s : Side) (ls : List SpineNode) → rolesAfter (sideOn s right) switch ls ≡ rolesOn s ls
-unfolding rolesAfter rolesOn sideOn handAfter roleAfter opposite
+side-right : (s : Side) → sideOn s right ≡ opposite s
+unfolding sideOn opposite
+side-right left = refl
+side-right right = refl
+
+-- The first node is a knee of the drawing's side, as after a switch of the other hand.
+pub first-on : (s : Side) (ls : List SpineNode) → rolesAfter (opposite s) switch ls ≡ rolesOn s ls
+unfolding rolesAfter rolesOn handAfter roleAfter opposite
 first-on s [] = refl
 first-on left (l ∷ ls) = refl
 first-on right (l ∷ ls) = refl
@@ -84,7 +63,7 @@ abbrev pub partsOn : Side → Tree → List Part
 partsOn s S = map (hang draw) (rolesOn s (spineOn s S))
 
 pub parts-on : (s : Side) (S : Tree) → parts draw right switch (spine (facing s S)) ≡ partsOn s S
-parts-on s S = ap (map (hang draw)) (ap (rolesAfter right switch) (spine-on s S) ∙ (roles-seen s right switch (spineOn s S) ∙ first-on s (spineOn s S)))
+parts-on s S = ap (map (hang draw)) (ap (rolesAfter right switch) (spine-on s S) ∙ (roles-seen s right switch (spineOn s S) ∙ (ap (λ (z : Side). rolesAfter z switch (spineOn s S)) (side-right s) ∙ first-on s (spineOn s S))))
 
 pub draw-on : (s : Side) (S : Tree) → draw (facing s S) ≡ whole (partsOn s S)
 draw-on s S = draw-parts (facing s S) ∙ ap whole (parts-on s S)
@@ -132,11 +111,32 @@ pub held-join : (s : Side) (e t k c r i u : ℕ) (h : Side) (S : Tree) (N : Layo
 unfolding hungOn
 held-join s e t k c r i u h S N ec er eu en = cc (put-join s e t k c r h (shift i u (draw (facing s S))) N, put-shift s e t i u (draw (facing s S)))
 
--- A subtree hung on a side is clean.
-pub hung-clean : (s : Side) (e t : ℕ) (S : Tree) → Fit s e (draw (facing s S)) → Clean (hungOn s e t S)
-unfolding hungOn held
-hung-clean s e t S fit = untangled-clean (subst Untangled (sym (put-held s e t (draw (facing s S)))) (go s fit (drawn (facing s S) .stands .untangled)))
-  where
-    go : (s : Side) {L : Layout} → Fit s e L → Untangled L → Untangled (held s e t L)
-    go left h c = untangled-shift e t c
-    go right h c = untangled-shift 0 t (untangled-flip e h c)
+-- ---- subtrees hung on a side
+
+shape-put : (s : Side) (e t : ℕ) (L : Layout) → shape (put s e t L) ≡ facing s (shape L)
+unfolding shape put facing mirror
+shape-put left e t blank = refl
+shape-put right e t blank = refl
+shape-put left e t (placed k P a b) = ap₂ (node k) (shape-put left e t a) (shape-put left e t b)
+shape-put right e t (placed k P a b) = ap₂ (node k) (shape-put right e t b) (shape-put right e t a)
+
+-- The same records and links.
+pub shape-hung : (s : Side) (e t : ℕ) (S : Tree) → shape (hungOn s e t S) ≡ S
+unfolding hungOn
+shape-hung s e t S = shape-put s e t (draw (facing s S)) ∙ (ap (facing s) (drawn (facing s S) .same) ∙ facing-twice s S)
+
+-- Nothing hung.
+pub hung-none : (s : Side) (e t : ℕ) → hungOn s e t none ≡ blank
+unfolding hungOn put facing mirror draw drawing size
+hung-none left e t = refl
+hung-none right e t = refl
+
+pub height-none : (s : Side) → heightOn s none ≡ 0
+unfolding heightOn facing mirror draw drawing size height
+height-none left = refl
+height-none right = refl
+
+pub width-none : (s : Side) → widthOn s none ≡ 0
+unfolding widthOn facing mirror draw drawing size width
+width-none left = refl
+width-none right = refl

@@ -1,19 +1,23 @@
--- From the spine to what hangs from it: a hung subtree has less than half of the nodes (`light-spine`), the roles are proper (`proper`), and what is placed has the
--- spine's tree (`shaped`).
+-- The spine of a tree, as it stands and as a side sees it (`spine-either`, `spine-on`). From the spine to what hangs from it: a hung subtree has less than half of the nodes
+-- (`light-spine`), the roles are proper (`proper`), and what is placed has the spine's tree (`shaped`).
 use mathlib.Core.Path.{_≡_, refl, ap, ap₂, _∙_}
-use mathlib.Core.Bool.{Bool, true, false, not}
-use mathlib.Core.List.{List, [], _∷_, map}
-use Prim.Native.Nat.{ℕ, suc, _+_, _*_, _≤_, _<_}
+use mathlib.Core.Bool.{Bool, true, false}
+use mathlib.Core.List.{List, [], _∷_, map, map-id}
+use mathlib.Core.Logic.{_⊎_, inl, inr, ⊎-elim}
+use Prim.Native.Nat.{ℕ, suc, _+_, _*_, _≤_, max}
+use native.Mathlib.Decide.{decLe}
 use native.Mathlib.Omega.{arith}
-use lib.Dec.{T, leb, leb→le, nleb→lt}
+use lib.Dec.{leb}
+use borrow.Author.Tests.{le-leb, lt-leb}
 use Rattle.segment.specs.declared.Point.{Point}
 use Rattle.table.specs.Table.{Side, left, right}
 use Rattle.table.specs.Tree.{Tree, none, node, size}
-use Rattle.layout.specs.Layout.{Layout, blank, placed, width, mirror}
+use Rattle.layout.specs.Layout.{Layout, blank, placed, width, mirror, height, shift, flip}
 use Rattle.layout.specs.Spine.{SpineNode, hangs, spine, Role, knee, ordinary, switch, opposite, seen, runRole, roleAfter, handAfter, assigned, rolesAfter, roles}
 use Rattle.layout.specs.Drawing.{Part, part, hang, widest, join, place}
-use Rattle.layout.specs.inner.Held.{facing}
+use Rattle.layout.specs.inner.Held.{facing, spineOn}
 use Rattle.layout.proofs.Clean.{HasRoot, a-root}
+use Rattle.layout.proofs.Motions.{width-flip}
 use Rattle.layout.proofs.Rows.{shape, mirror-twice, size-mirror, shape-shift, shape-flip}
 use Rattle.layout.proofs.Along.{Drawn, Stretch, turn, run, Beside, on-right, nothing, Proper, ended, a-knee, an-ordinary, a-switch}
 
@@ -37,24 +41,45 @@ pub data Light (n : ℕ) : List SpineNode → Type 0 where
   light-end : Light n []
   light-node : {l : SpineNode} {ls : List SpineNode} → 2 * size (hungTree l) + 1 ≤ n → size (hungTree l) ≤ size (spineTree ls) → Light n ls → Light n (l ∷ ls)
 
-pub tree-spine : (t : Tree) → spineTree (spine t) ≡ t
-unfolding spineTree over spine
-tree-spine none = refl
-tree-spine (node k a b) = go (leb (size b) (size a)) (tree-spine a) (tree-spine b)
-  where
-    go : (c : Bool) → spineTree (spine a) ≡ a → spineTree (spine b) ≡ b → spineTree (elim c [ true ↦ hangs k right b ∷ spine a | false ↦ hangs k left a ∷ spine b ]) ≡ node k a b
-    go true h i = ap (λ (n : Tree). node k n b) h
-    go false h i = ap (λ (n : Tree). node k a n) i
+-- The spine as a side sees it, from the tree as it stands.
+by-test : (s : Side) (c : Bool) (l m : SpineNode) {x y : List SpineNode} (x′ y′ : List SpineNode) → x ≡ map (seen s) x′ → y ≡ map (seen s) y′ →
+    _≡_ {A = List SpineNode} (elim c [ true ↦ seen s l ∷ x | false ↦ seen s m ∷ y ]) (map (seen s) (elim c [ true ↦ l ∷ x′ | false ↦ m ∷ y′ ]))
+by-test s true l m x′ y′ h i = ap (λ (ls : List SpineNode). seen s l ∷ ls) h
+by-test s false l m x′ y′ h i = ap (λ (ls : List SpineNode). seen s m ∷ ls) i
+
+pub spine-on : (s : Side) (t : Tree) → spine (facing s t) ≡ map (seen s) (spineOn s t)
+unfolding spine spineOn facing mirror seen opposite
+spine-on left none = refl
+spine-on right none = refl
+spine-on left (node k a b) = by-test left (leb (size b) (size a)) (hangs k right b) (hangs k left a) (spineOn left a) (spineOn left b) (spine-on left a) (spine-on left b)
+spine-on right (node k a b) = rw (size-mirror a, size-mirror b, spine) (by-test right (leb (size a) (size b)) (hangs k left a) (hangs k right b) (spineOn right b) (spineOn right a) (spine-on right b) (spine-on right a))
+
+pub spine-here : (t : Tree) → spine t ≡ spineOn left t
+unfolding facing seen
+spine-here t = spine-on left t ∙ map-id (spineOn left t)
+
+-- From a node it goes on in one of the two subtrees, which is no smaller than the other.
+pub spine-either : (s : Side) (k : ℕ) (a b : Tree) →
+    ((size b ≤ size a) × (spineOn s (node k a b) ≡ hangs k right b ∷ spineOn s a)) ⊎ ((size a ≤ size b) × (spineOn s (node k a b) ≡ hangs k left a ∷ spineOn s b))
+unfolding spineOn
+spine-either left k a b = elim (decLe (size b) (size a)) [ yes h ↦ inl (h, rw (le-leb (size b) (size a) h, spineOn)) | no h ↦ inr (omega arith, rw (lt-leb (size b) (size a) (omega arith), spineOn)) ]
+spine-either right k a b = elim (decLe (size a) (size b)) [ yes h ↦ inr (h, rw (le-leb (size a) (size b) h, spineOn)) | no h ↦ inl (omega arith, rw (lt-leb (size a) (size b) (omega arith), spineOn)) ]
+
+pub tree-spine : (s : Side) (t : Tree) → spineTree (spineOn s t) ≡ t
+unfolding spineTree over spineOn
+tree-spine s none = refl
+tree-spine s (node k a b) = ⊎-elim (λ e. ap spineTree (e .1) ∙ ap (λ (n : Tree). node k n b) (tree-spine s a)) (λ e. ap spineTree (e .1) ∙ ap (node k a) (tree-spine s b)) (spine-either s k a b)
+
+pub light-on : (n : ℕ) (s : Side) (t : Tree) → size t ≤ n → Light n (spineOn s t)
+unfolding spineOn size
+light-on n s none h = light-end
+light-on n s (node k a b) h = ⊎-elim
+    (λ e. rw (e .1) (light-node {l = hangs k right b} {ls = spineOn s a} (omega (arith, e .0)) (omega (arith, e .0, ap size (tree-spine s a))) (light-on n s a (omega arith))))
+    (λ e. rw (e .1) (light-node {l = hangs k left a} {ls = spineOn s b} (omega (arith, e .0)) (omega (arith, e .0, ap size (tree-spine s b))) (light-on n s b (omega arith))))
+    (spine-either s k a b)
 
 pub light-spine : (n : ℕ) (t : Tree) → size t ≤ n → Light n (spine t)
-unfolding spine size
-light-spine n none h = light-end
-light-spine n (node k a b) h = go (leb (size b) (size a)) (leb→le (size b) (size a)) (nleb→lt (size b) (size a)) (light-spine n a (omega arith)) (light-spine n b (omega arith))
-  where
-    go : (c : Bool) → (T c → size b ≤ size a) → (T (not c) → size a < size b) → Light n (spine a) → Light n (spine b) →
-        Light n (elim c [ true ↦ hangs k right b ∷ spine a | false ↦ hangs k left a ∷ spine b ])
-    go true f g i j = light-node {l = hangs k right b} {ls = spine a} (omega (arith, f tt)) (omega (arith, f tt, ap size (tree-spine a))) i
-    go false f g i j = light-node {l = hangs k left a} {ls = spine b} (omega (arith, g tt)) (omega (arith, g tt, ap size (tree-spine b))) j
+light-spine n t h = rw (spine-here t) (light-on n left t h)
 
 pub size-seen : (s : Side) (l : SpineNode) → size (hungTree (seen s l)) ≡ size (hungTree l)
 unfolding seen
@@ -65,16 +90,6 @@ pub size-over : (l : SpineNode) (t : Tree) → size (over l t) ≡ suc (size (hu
 unfolding over size
 size-over (hangs k left u) t = refl
 size-over (hangs k right u) t = omega arith
-
--- A spine is light as a side sees it, and so as it stands.
-pub light-seen : (n : ℕ) (s : Side) (ls : List SpineNode) → Light n (map (seen s) ls) → Light n ls
-unfolding spineTree
-light-seen n s [] z = light-end
-light-seen n s (l ∷ ls) (light-node f g z) = light-node {l = l} {ls = ls} (omega (arith, size-seen s l)) (omega (arith, size-seen s l, same ls)) (light-seen n s ls z)
-  where
-    same : (ls : List SpineNode) → size (spineTree (map (seen s) ls)) ≡ size (spineTree ls)
-    same [] = refl
-    same (m ∷ ms) = omega (arith, size-over (seen s m) (spineTree (map (seen s) ms)), size-over m (spineTree ms), size-seen s m, same ms)
 
 -- A switch is followed by a node, since what hangs from it has no more nodes than the rest of the spine.
 abbrev pub Goes : Role → List SpineNode → Type 0
@@ -135,18 +150,20 @@ proper-one W d knee l g w c = proper-run W d l g w c
 proper-one W d ordinary l g w c = proper-run W d l g w c
 proper-one W d switch (hangs k s t) g w c = a-knee g w c
 
--- W is not below the width of a hung drawing.
-widest-one : (d : Tree → Layout) (o : Role) (l : SpineNode) (ps : List Part) → (width (d (hungTree l)) ≤ widest (hang d (assigned o l) ∷ ps)) × (widest ps ≤ widest (hang d (assigned o l) ∷ ps))
+-- W, one node at a time.
+pub widest-one : (d : Tree → Layout) (o : Role) (l : SpineNode) (ps : List Part) → widest (hang d (assigned o l) ∷ ps) ≡ max (width (d (hungTree l))) (widest ps)
 unfolding hang widest
-widest-one d o (hangs k s t) ps = (omega arith, omega arith)
+widest-one d o (hangs k s t) ps = refl
 
-widest-less : (B : ℕ) (d : Tree → Layout) (o : Role) (l : SpineNode) (ps : List Part) → width (d (hungTree l)) ≤ B → widest ps ≤ B → widest (hang d (assigned o l) ∷ ps) ≤ B
-unfolding hang widest
-widest-less B d o (hangs k s t) ps h i = omega arith
+-- A knee is in column 0, so what follows a switch goes to the frame's other edge.
+pub knee-wide : (W H r p k : ℕ) (s : Side) (D : Layout) (ps : List Part) → width (flip (W + 2) (place W H r p (part knee k s D ∷ ps) .drawn)) ≡ W + 3
+unfolding place flip width
+knee-wide W H r p k left D ps = omega (arith, width-flip (W + 2) (shift 1 (place W (max H r) (max H r + 1) (height D) ps .under) D), width-flip (W + 2) (place W (max H r) (max H r + 1) (height D) ps .drawn))
+knee-wide W H r p k right D ps = omega (arith, width-flip (W + 2) (place W (max H r + height D) (max H r + height D + 1) 0 ps .drawn), width-flip (W + 2) (shift 1 (max H r + 1) D))
 
 -- ---- the tree
 
-shape-join : (k : ℕ) (P : Point) (s : Side) (D N : Layout) → shape (join k P s D N) ≡ over (hangs k s (shape D)) (shape N)
+pub shape-join : (k : ℕ) (P : Point) (s : Side) (D N : Layout) → shape (join k P s D N) ≡ over (hangs k s (shape D)) (shape N)
 unfolding join shape over
 shape-join k P left D N = refl
 shape-join k P right D N = refl
@@ -200,7 +217,7 @@ module _ (n W : ℕ) (d : Tree → Layout) (hd : (S : Tree) → 2 * size S + 1 �
   widest-at-most B h s o (light-node {l} {ls} f g i) =
       let s′ = handAfter o s in
       let o′ = roleAfter o (seen s′ l) in
-      widest-less B d o′ (seen s′ l) (parts d s′ o′ ls) (h (hungTree (seen s′ l)) (omega (arith, size-seen s′ l))) (widest-at-most B h s′ o′ i)
+      omega (arith, widest-one d o′ (seen s′ l) (parts d s′ o′ ls), h (hungTree (seen s′ l)) (omega (arith, size-seen s′ l)), widest-at-most B h s′ o′ i)
 
   shaped-one : (o : Role) (l : SpineNode) (ps : List Part) (N : Tree) → Drawn (hungTree l) (d (hungTree l)) → ((H r p : ℕ) → shape (place W H r p ps .drawn) ≡ N) →
       (H r p : ℕ) → shape (place W H r p (hang d (assigned o l) ∷ ps) .drawn) ≡ over l (facing (handAfter o left) N)

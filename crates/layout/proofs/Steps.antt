@@ -7,11 +7,12 @@ use native.Mathlib.Decide.{decLt}
 use native.Mathlib.Omega.{arith}
 use Rattle.segment.specs.declared.Point.{Point}
 use Rattle.segment.specs.Segment.{at, Is}
+use Rattle.segment.proofs.Weights.{Weights, at-point}
 use Rattle.table.specs.Table.{Side, left, right}
 use Rattle.layout.specs.Layout.{Layout, placed, width, flip}
 use Rattle.layout.specs.Drawing.{join}
 use Rattle.layout.proofs.Clean.{HasRoot, Kind, Piece, root, edge, below}
-use Rattle.layout.proofs.Points.{Between, at-itself, falls, Along, PointOf, pointOn, EdgeTo, Order, Apart, exchange, fork, point-rooted, UntangledAt, low-at, edge-at, under-at, order-at, InWindow}
+use Rattle.layout.proofs.Points.{falls, Along, PointOf, pointOn, EdgeTo, Order, Apart, exchange, fork, point-rooted, UntangledAt, low-at, edge-at, under-at, order-at, InWindow}
 use Rattle.layout.proofs.Motions.{flipped, untangled-flip, width-flip, root-flip}
 
 -- ---- what is known of D and N
@@ -44,7 +45,7 @@ pub record Knee (W H r : ℕ) (N : Layout) : Type 0 where
 -- A point of a node with two subtrees.
 cases : {C : Type 0} {k : ℕ} {P : Point} {a b : Layout} {c : Kind} {q x y : ℕ} (p : Piece c (placed k P a b)) → Along p q x y →
     (Is P q x y → C) → (EdgeTo P q x y a → C) → (EdgeTo P q x y b → C) → (PointOf q x y a → C) → (PointOf q x y b → C) → C
-cases root m i e f z w = i (at-itself m)
+cases root m i e f z w = i (at-point m refl)
 cases (edge left h) m i e f z w = e (record { has = h; on = m })
 cases (edge right h) m i e f z w = f (record { has = h; on = m })
 cases (below left p) m i e f z w = z (pointOn p m)
@@ -73,7 +74,7 @@ wide-join k P right D N = omega arith
 -- ---- the four steps
 
 -- An edge from column 0 to column 1 reaches column 1 in its last row.
-reaches : {r s q x y : ℕ} → Between (at 0 r) (at 1 s) q x y → q ≤ x → q * s ≤ y
+reaches : {r s q x y : ℕ} → Weights (at 0 r) (at 1 s) q x y → q ≤ x → q * s ≤ y
 reaches {s} {q} m h = let l : q ≤ m .v = omega (arith, m .in-column) in omega (arith, m .in-row, mul-le-mul-right s l)
 
 -- Step 4 with the right child hung.
@@ -117,7 +118,7 @@ step-knee-left k {W} {H} {r} {w} {h} {u} {D} {N} le wW d n = record {
 }
   where
     -- the edge to the pending drawing, and N: above row u columns from 1 on are N's, and in row u columns beyond W
-    across : {q x y : ℕ} → 1 ≤ q → Between (at 0 r) (at 1 u) q x y → 1 ≤ w → 1 ≤ h → PointOf q x y N → Dec (y < q * u) → ⊥
+    across : {q x y : ℕ} → 1 ≤ q → Weights (at 0 r) (at 1 u) q x y → 1 ≤ w → 1 ≤ h → PointOf q x y N → Dec (y < q * u) → ⊥
     across one m w₁ h₁ t (yes l) = omega (arith, reaches m (n .free h₁ one t l))
     across {q} one m w₁ h₁ t (no l) =
         let f = falls (omega (arith, n .below)) m in

@@ -2,19 +2,18 @@
 use mathlib.Core.Path.{_≡_, refl, ap, subst, _∙_}
 use mathlib.Core.Bool.{Bool, true, false, cond}
 use mathlib.Core.List.{List, [], _∷_}
-use Prim.Native.Nat.{ℕ, suc, _+_, _≤_, max}
+use Prim.Native.Nat.{ℕ, _+_, _≤_, max}
 use native.Mathlib.Omega.{arith}
-use Rattle.segment.specs.Segment.{at}
 use Rattle.table.specs.Table.{Side, left, right}
 use Rattle.table.specs.Tree.{Tree, none, node, size}
-use Rattle.layout.specs.Layout.{Layout, placed, width, height, shift, flip}
+use Rattle.layout.specs.Layout.{Layout, width, height, shift, flip}
 use Rattle.layout.specs.Spine.{SpineNode, hangs, Role, knee, ordinary, switch, seen, runRole, roleAfter, handAfter, assigned, rolesAfter}
 use Rattle.layout.specs.Drawing.{Part, part, hang, widest, join, place, draw}
 use Rattle.layout.specs.inner.Held.{facing, widthOn, widestOn}
 use Rattle.layout.specs.inner.Width.{edge, turn}
-use Rattle.layout.proofs.Motions.{width-shift, width-shifted, width-flip}
-use Rattle.layout.proofs.Rows.{size-mirror}
-use Rattle.layout.proofs.Spines.{spineTree, Light, light-end, light-node, light-spine, size-seen, size-over, Goes, goes-on, parts}
+use Rattle.layout.proofs.Motions.{width-shift, width-shifted}
+use Rattle.layout.proofs.Rows.{size-facing}
+use Rattle.layout.proofs.Spines.{spineTree, Light, light-end, light-node, light-spine, size-seen, size-over, Goes, goes-on, parts, knee-wide, widest-one}
 use Rattle.layout.proofs.Whole.{drawn, whole}
 use Rattle.layout.proofs.Sides.{partsOn, parts-on, draw-on}
 
@@ -38,15 +37,8 @@ data InStep (W : ℕ) : Bool → List Part → Type 0 where
   an-ordinary : {k : ℕ} {s : Side} {D : Layout} {ps : List Part} → width D ≤ W → InStep W false ps → InStep W false (part ordinary k s D ∷ ps)
   a-switch : {k : ℕ} {s : Side} {D : Layout} {ps : List Part} → width D ≤ W → InStep W true ps → InStep W false (part switch k s D ∷ ps)
 
--- A knee is in column 0, so what follows a switch goes to the frame's other edge.
-flip-wide : (e k r : ℕ) (a b : Layout) → width (flip e (placed k (at 0 r) a b)) ≡ suc e
-unfolding flip width
-flip-wide e k r a b = omega (arith, width-flip e a, width-flip e b)
-
 turned-wide : (W H r p : ℕ) {ps : List Part} → InStep W true ps → width (flip (W + 2) (place W H r p ps .drawn)) ≡ W + 3
-unfolding place
-turned-wide W H r p (a-knee {s = left} h l) = flip-wide (W + 2) _ r _ _ ∙ omega arith
-turned-wide W H r p (a-knee {s = right} h l) = flip-wide (W + 2) _ r _ _ ∙ omega arith
+turned-wide W H r p (a-knee {k} {s} {D} {ps} h l) = knee-wide W H r p k s D ps
 
 -- A node that does not turn the spine, its hung drawing on either side.
 grown : (b : Bool) (e W w x X R : ℕ) → e ≤ 2 → w ≤ W → max e x ≡ e + w → X ≡ cond b (W + 3) R →
@@ -77,10 +69,6 @@ one-laid W knee l ps w c = run-laid W l ps w c
 one-laid W ordinary l ps w c = run-laid W l ps w c
 one-laid W switch (hangs k s t) ps w c = a-knee {D = draw t} (omega arith) c
 
-rest-less : (o : Role) (l : SpineNode) (ps : List Part) → widest ps ≤ widest (hang draw (assigned o l) ∷ ps)
-unfolding hang widest
-rest-less o (hangs k s t) ps = omega arith
-
 laid : (n W : ℕ) (s : Side) (o : Role) {ls : List SpineNode} → Light n ls → Goes o ls → widest (parts draw s o ls) ≤ W → InStep W (turn o false) (parts draw s o ls)
 unfolding rolesAfter spineTree size
 laid n W s knee light-end g w = no-more
@@ -90,7 +78,7 @@ laid n W s o (light-node {l} {ls} f i z) g w =
     let s′ = handAfter o s in
     let m = seen s′ l in
     let o′ = roleAfter o m in
-    one-laid W o m _ w (laid n W s′ o′ z (goes-on o m ls (omega (arith, size-seen s′ l))) (omega (arith, rest-less o′ m (parts draw s′ o′ ls))))
+    one-laid W o m _ w (laid n W s′ o′ z (goes-on o m ls (omega (arith, size-seen s′ l))) (omega (arith, widest-one draw o′ m (parts draw s′ o′ ls))))
 
 -- How wide a drawing of some parts is.
 abbrev Wide : List Part → ℕ → Type 0
@@ -123,11 +111,6 @@ widest-less s S = go (turns (partsOn s S)) (width-law s S)
     go false e = omega (arith, widest-reaches (partsOn s S))
 
 -- And the width is small.
-size-facing : (s : Side) (S : Tree) → size (facing s S) ≡ size S
-unfolding facing
-size-facing left S = refl
-size-facing right S = size-mirror S
-
 pub width-small : (s : Side) (S : Tree) → size S ≤ 4096 → widthOn s S ≤ 37
 unfolding widthOn
 width-small s S h = drawn (facing s S) .narrow 12 (omega (arith, size-facing s S))

@@ -1,22 +1,22 @@
--- What is prepared of a tree depends only on the entries at its nodes: counts of nodes along a spine, and frames. Rests on the laws of accepted tables.
-use mathlib.Core.Bool.{Bool, true, false}
+-- What is prepared of a tree depends only on the entries at its nodes: counts of nodes along a spine, and frames. Rests on the laws of accepted tables and of spines.
 use mathlib.Core.Path.{_≡_, refl, ap, _∙_}
 use mathlib.Core.Logic.{inl, inr, ⊎-elim}
 use mathlib.Core.List.{List, [], _∷_}
 use Prim.Native.Nat.{ℕ, _+_, _≤_, _<_}
 use native.Mathlib.Omega.{arith}
-use lib.Dec.{T, leb}
+use lib.Dec.{T}
 use lib.ListN.{getD, length, length-set}
 use lib.Seq.{getD-set-same, getD-set-other}
 use Rattle.table.specs.Lists.{member, count}
 use Rattle.table.specs.Table.{Side, left, right, records, leftOf, rightOf, linkOf, chain}
-use Rattle.table.specs.Tree.{Tree, none, node, size, nodes, treeAt, tree}
+use Rattle.table.specs.Tree.{Tree, none, node, nodes, treeAt, tree}
 use Rattle.table.specs.Refusal.{fault}
-use Rattle.table.proofs.Lists.{same, same-one, count-append, member-count, repeats-count}
-use Rattle.table.proofs.Chain.{reached}
+use Rattle.table.proofs.Lists.{same, same-one, member-count, repeats-count}
+use Rattle.table.proofs.Chain.{count-node, reached}
 use Rattle.table.proofs.Accepted.{links-chained, nodes-distinct, down, tree-unfolds, tree-none}
 use Rattle.layout.specs.Spine.{SpineNode, hangs, Role, seen, roleAfter, handAfter}
 use Rattle.layout.specs.inner.Held.{spineOn, roleNext}
+use Rattle.layout.proofs.Spines.{spine-either}
 use Rattle.measure.specs.inner.Sized.{Named}
 use Rattle.measure.specs.inner.Prepared.{codeOf, Prepared, no-spine, a-spine, Along, ended, onward}
 use Rattle.measure.specs.inner.Roles.{withRoles}
@@ -35,39 +35,21 @@ unfolding countOn countHung
 hung-on x [] = omega arith
 hung-on x (hangs k h S ∷ ls) = omega (arith, hung-on x ls)
 
-pub count-node : (x k : ℕ) (a b : Tree) → count x (nodes (node k a b)) ≡ same x k + (count x (nodes a) + count x (nodes b))
-unfolding nodes count
-count-node x k a b = omega (arith, count-append x (nodes a) (nodes b))
-
 pub count-spine : (s : Side) (x : ℕ) (S : Tree) → count x (nodes S) ≡ countOn x (spineOn s S)
 unfolding spineOn countOn
 count-spine s x none = unfold nodes count in refl
-count-spine left x (node k a b) = go (leb (size b) (size a)) (count-spine left x a) (count-spine left x b)
-  where
-    go : (c : Bool) → count x (nodes a) ≡ countOn x (spineOn left a) → count x (nodes b) ≡ countOn x (spineOn left b) →
-        count x (nodes (node k a b)) ≡ countOn x (elim c [ true ↦ hangs k right b ∷ spineOn left a | false ↦ hangs k left a ∷ spineOn left b ])
-    go true h i = omega (arith, count-node x k a b)
-    go false h i = omega (arith, count-node x k a b)
-count-spine right x (node k a b) = go (leb (size a) (size b)) (count-spine right x a) (count-spine right x b)
-  where
-    go : (c : Bool) → count x (nodes a) ≡ countOn x (spineOn right a) → count x (nodes b) ≡ countOn x (spineOn right b) →
-        count x (nodes (node k a b)) ≡ countOn x (elim c [ true ↦ hangs k left a ∷ spineOn right b | false ↦ hangs k right b ∷ spineOn right a ])
-    go true h i = omega (arith, count-node x k a b)
-    go false h i = omega (arith, count-node x k a b)
+count-spine s x (node k a b) = ⊎-elim
+    (λ e. omega (arith, ap (countOn x) (e .1), count-node x k a b, count-spine s x a))
+    (λ e. omega (arith, ap (countOn x) (e .1), count-node x k a b, count-spine s x b))
+    (spine-either s k a b)
 
 -- The root of a tree is the first node of its spine.
 pub hung-below : (s : Side) (k : ℕ) (a b : Tree) → 1 + countHung k (spineOn s (node k a b)) ≤ count k (nodes (node k a b))
-unfolding spineOn countHung
-hung-below left k a b = go (leb (size b) (size a))
-  where
-    go : (c : Bool) → 1 + countHung k (elim c [ true ↦ hangs k right b ∷ spineOn left a | false ↦ hangs k left a ∷ spineOn left b ]) ≤ count k (nodes (node k a b))
-    go true = omega (arith, count-node k k a b, same-one k k refl, count-spine left k a, hung-on k (spineOn left a))
-    go false = omega (arith, count-node k k a b, same-one k k refl, count-spine left k b, hung-on k (spineOn left b))
-hung-below right k a b = go (leb (size a) (size b))
-  where
-    go : (c : Bool) → 1 + countHung k (elim c [ true ↦ hangs k left a ∷ spineOn right b | false ↦ hangs k right b ∷ spineOn right a ]) ≤ count k (nodes (node k a b))
-    go true = omega (arith, count-node k k a b, same-one k k refl, count-spine right k b, hung-on k (spineOn right b))
-    go false = omega (arith, count-node k k a b, same-one k k refl, count-spine right k a, hung-on k (spineOn right a))
+unfolding countHung
+hung-below s k a b = ⊎-elim
+    (λ e. omega (arith, ap (countHung k) (e .1), count-node k k a b, same-one k k refl, count-spine s k a, hung-on k (spineOn s a)))
+    (λ e. omega (arith, ap (countHung k) (e .1), count-node k k a b, same-one k k refl, count-spine s k b, hung-on k (spineOn s b)))
+    (spine-either s k a b)
 
 -- The nodes of a subtree of an accepted table are chained, and none stands in it twice.
 pub nodes-named : (t : List ℕ) → fault t ≡ 0 → (k : ℕ) → Named t k → (x : ℕ) → 1 ≤ count x (nodes (treeAt t k)) → Named t x

@@ -18,10 +18,10 @@ use Rattle.table.proofs.Chain.{length-nodes}
 use Rattle.table.proofs.Accepted.{records-bounds, chain-length, size-below, tree-unfolds, tree-none}
 use Rattle.layout.specs.Spine.{SpineNode, hangs, Role, knee, ordinary, switch, opposite, seen, roleAfter, handAfter, assigned, Assigned, rolesAfter}
 use Rattle.layout.specs.Drawing.{Part, hang, widest, draw}
-use Rattle.layout.specs.inner.Held.{facing, widthOn, spineOn, roleNext, rolesOn, widestOn}
+use Rattle.layout.specs.inner.Held.{facing, widthOn, spineOn, roleNext, widestOn}
 use Rattle.layout.specs.inner.Width.{edge, turn}
 use Rattle.layout.proofs.Spines.{parts}
-use Rattle.layout.proofs.Sides.{partsOn}
+use Rattle.layout.proofs.Sides.{partsOn, first-on, width-none}
 use Rattle.layout.proofs.Width.{reaches, turns, width-law, widest-less, width-small}
 use Rattle.measure.specs.declared.roles.Role.{Role as CodeRole}
 use Rattle.measure.specs.declared.survey.Survey.{Survey}
@@ -74,12 +74,6 @@ pub record Surveying (t : List ℕ) (s : Side) (root : ℕ) (R₀ W₀ R W : Lis
   pub turned : b || turns (parts draw a o (spineOn s (treeAt t k))) ≡ turns (partsOn s (treeAt t root))
 
 -- The first node is a knee of the drawing's side, as after a switch of the other hand.
-first-roles : (s : Side) (ls : List SpineNode) → rolesAfter (opposite s) switch ls ≡ rolesOn s ls
-unfolding rolesAfter rolesOn handAfter roleAfter opposite
-first-roles s [] = refl
-first-roles left (l ∷ ls) = refl
-first-roles right (l ∷ ls) = refl
-
 first-along : {R W : List ℕ} (s : Side) (ls : List SpineNode) → AlongAfter R W (opposite s) switch ls → Along R W s knee ls
 unfolding roleNext handAfter roleAfter opposite
 first-along s [] l = ended
@@ -101,9 +95,9 @@ module _ (t : List ℕ) (ok : fault t ≡ 0) (s : Side) (root : ℕ) where
     inside = λ x. omega arith;
     kept-roles = λ x i. refl;
     kept-widest = λ x i. refl;
-    widest = omega (arith, ap (λ (rs : List Assigned). widest (map (hang draw) rs)) (first-roles s ls));
-    reach = omega (arith, ap (λ (rs : List Assigned). reaches (map (hang draw) rs)) (first-roles s ls));
-    turned = ap (λ (rs : List Assigned). turns (map (hang draw) rs)) (first-roles s ls);
+    widest = omega (arith, ap (λ (rs : List Assigned). widest (map (hang draw) rs)) (first-on s ls));
+    reach = omega (arith, ap (λ (rs : List Assigned). reaches (map (hang draw) rs)) (first-on s ls));
+    turned = ap (λ (rs : List Assigned). turns (map (hang draw) rs)) (first-on s ls);
   }
     where
       S : Tree
@@ -220,12 +214,8 @@ moved : {t : List ℕ} {s a : Side} {o : Role} {root k k′ g g′ e e′ : ℕ}
 moved p q r u w = rw (p, q, r, u) w
 
 -- No subtree.
-none-wide : (s : Side) → widthOn s none ≡ 0
-unfolding spineOn rolesOn turns reaches
-none-wide s = width-law s none
-
 pub measured-none : (t : List ℕ) (s : Side) (k : ℕ) (R W : List ℕ) → k ≡ 0 → Measured t s k R W R W 0
-measured-none t s k R W e = record { wide = sym (ap (widthOn s) none-there ∙ none-wide s); prepared = subst (Prepared R W s) (sym none-there) no-spine; kept-roles = λ x i. refl; kept-widest = λ x i. refl }
+measured-none t s k R W e = record { wide = sym (ap (widthOn s) none-there ∙ width-none s); prepared = subst (Prepared R W s) (sym none-there) no-spine; kept-roles = λ x i. refl; kept-widest = λ x i. refl }
   where
     none-there : treeAt t k ≡ none
     none-there = rw e (tree-none t)

@@ -1,7 +1,7 @@
 -- `measure::roles::right_run` meets its contract. Rests on Choices.
 use mathlib.Core.Path.{refl, ap}
 use mathlib.Core.Logic.{inl, inr}
-use Rattle.table.specs.Table.{left, right}
+use Rattle.table.specs.Table.{right}
 use Rattle.layout.specs.Spine.{opposite}
 use Rattle.measure.specs.inner.Forked.{sideOf}
 use Rattle.measure.proofs.Choices.{ordinary-runs, switch-runs}
