@@ -15,7 +15,7 @@ use Rattle.layout.specs.inner.Held.{inwards, put, Fit}
 use Rattle.layout.proofs.Clean.{onSide, HasRoot, a-root, Node, root, below, top, point}
 use Rattle.layout.proofs.Points.{PointOf, pointOn, point-below, InWindow}
 use Rattle.layout.proofs.Motions.{shift-within}
-use Rattle.layout.proofs.Sides.{sideOn, same-node}
+use Rattle.layout.proofs.Sides.{sideOn, held, put-held, put-home}
 
 -- ---- the law
 
@@ -260,6 +260,5 @@ module _ (e t : ℕ) where
 
 -- A flipped layout is held by its right edge.
 pub flip-put : (e : ℕ) (L : Layout) → put right e 0 L ≡ flip e L
-unfolding put flip
-flip-put e blank = refl
-flip-put e (placed k P a b) = same-node refl (omega arith) (flip-put e b) (flip-put e a)
+unfolding held
+flip-put e L = put-held right e 0 L ∙ (sym (put-held left 0 0 (flip e L)) ∙ put-home (flip e L))

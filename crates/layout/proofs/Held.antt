@@ -18,7 +18,7 @@ use Rattle.layout.proofs.Heights.{last}
 use Rattle.layout.proofs.Spines.{spineTree, Light, light-end, light-node, size-seen, Goes, goes-on, parts, light-on, knee-wide}
 use Rattle.layout.proofs.Whole.{draw-rows}
 use Rattle.layout.proofs.Theorem.{promise}
-use Rattle.layout.proofs.Sides.{sideOn, partsOn, parts-on, draw-on, put-flip, held-join, same-node}
+use Rattle.layout.proofs.Sides.{sideOn, partsOn, parts-on, draw-on, put-flip, held-join, put-home}
 
 -- ---- a spine as it stands, and its parts
 
@@ -206,11 +206,6 @@ frame-from right e w = λ h. omega arith
 pub hung-law : (s : Side) (e f t : ℕ) (S : Tree) → Frame s e f (widestOn s S + 2) → Fit s e (draw (facing s S)) → hungOn s e t S ≡ lay s e f knee t t 0 (spineOn s S) .drawn
 unfolding hungOn widestOn widthOn
 hung-law s e f t S fr fit = ap (put s e t) (draw-on s S) ∙ sym (all-laid (e + suc (width (draw (facing s S)))) s e f t S fr (some-inside s e (draw (facing s S)) fit) .drawn)
-
-put-home : (L : Layout) → put left 0 0 L ≡ L
-unfolding put
-put-home blank = refl
-put-home (placed k P a b) = same-node (omega arith) (omega arith) (put-home a) (put-home b)
 
 -- The whole tree is held by its left edge at column 0.
 pub draw-hung : (t : Tree) → draw t ≡ hungOn left 0 0 t

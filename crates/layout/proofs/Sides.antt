@@ -98,6 +98,11 @@ put-held right e t blank = refl
 put-held left e t (placed k P a b) = same-node refl refl (put-held left e t a) (put-held left e t b)
 put-held right e t (placed k P a b) = same-node (omega arith) refl (put-held right e t b) (put-held right e t a)
 
+pub put-home : (L : Layout) → put left 0 0 L ≡ L
+unfolding put
+put-home blank = refl
+put-home (placed k P a b) = same-node (omega arith) (omega arith) (put-home a) (put-home b)
+
 put-join : (s : Side) (e t k c r : ℕ) (h : Side) (D N : Layout) → put s e t (join k (at c r) (sideOn s h) D N) ≡ join k (at (inwards s e c) (t + r)) h (put s e t D) (put s e t N)
 unfolding put join inwards sideOn opposite
 put-join left e t k c r left D N = refl
