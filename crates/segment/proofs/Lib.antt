@@ -6,5 +6,5 @@ pub mod CrossProduct
 pub mod Range
 pub mod SharedPoint
 pub mod Clashing
-pub mod Apart
+pub mod Separate
 pub mod Answers

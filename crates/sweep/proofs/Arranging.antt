@@ -11,7 +11,7 @@ use lib.Seq.{getD-set-same, getD-set-other}
 use Rattle.segment.specs.declared.Point.{Point}
 use Rattle.segment.specs.Segment.{Clash}
 use Rattle.segment.proofs.Clashing.{clash-turn, clash-turn-first}
-use Rattle.segment.proofs.Apart.{clash-transpose}
+use Rattle.segment.proofs.Separate.{clash-transpose}
 use Rattle.segment.specs.inner.Test.{transpose, number}
 use Rattle.sort.specs.inner.Order.{Rearranged}
 use Rattle.sort.proofs.Rearranging.{turned, all-one, any-two, all-two}

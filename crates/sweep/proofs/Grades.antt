@@ -9,7 +9,7 @@ use lib.ListN.{getD}
 use Rattle.segment.specs.declared.Point.{Point}
 use Rattle.segment.specs.Segment.{Clash}
 use Rattle.segment.proofs.Clashing.{clash-exchange}
-use Rattle.segment.proofs.Apart.{clash-columns-apart, numbers-apart}
+use Rattle.segment.proofs.Separate.{clash-columns-apart, numbers-apart}
 use Rattle.sort.specs.inner.Order.{Below, Pairs, Ascending}
 use Rattle.sweep.specs.declared.meeting.Meeting.{Meeting}
 use Rattle.sweep.specs.declared.meeting.Meeting.the-variants.{Clear, Clashing}
