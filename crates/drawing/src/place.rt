@@ -7,7 +7,7 @@ use measure::roles::Role;
 use measure::roles::is_switch;
 use measure::roles::role_at;
 ghost use mathlib.Core.Path.{_≡_};
-ghost use Prim.Native.Nat.{_+_, _*_, _<_, max};
+ghost use Prim.Native.Nat.{_+_, _*_, _<_};
 ghost use lib.ListN.{length};
 ghost use Rattle.table.specs.Table.{left, right};
 ghost use Rattle.layout.specs.Spine.{Role as LayoutRole, knee, ordinary, switch};
