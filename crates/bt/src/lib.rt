@@ -7,7 +7,7 @@ ghost use Rattle.verdict.specs.Verdict.{Verdict};
 ghost use Rattle.width.specs.Allowed.{allowedWidth};
 ghost use Rattle.bt.specs.Packed.{packed};
 
-fn pack(drawn: Drawn) -> u64
+fn pack_drawn(drawn: Drawn) -> u64
     ensures { λ r. ⌜ r ≡ packed drawn ⌝ }
 {
     let plan = drawn.plan;
@@ -22,7 +22,7 @@ pub extern "C" fn bt_draw(table: &[u8], placements: &mut [u16]) -> u64
     ensures { λ r. ⌜ r ≡ packed (drawnOf (now (table .entry)) (now (placements .entry))) ⌝ }
     ensures { λ r. ⌜ now (placements .exit) ≡ placedIn (now (table .entry)) (now (placements .entry)) ⌝ }
 {
-    pack(drawing::draw(table, placements))
+    pack_drawn(drawing::draw(table, placements))
 }
 
 #[no_mangle]

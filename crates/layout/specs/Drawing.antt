@@ -36,7 +36,8 @@ pub record Rest : Type 0 where
 unfoldable pub place : (W H r p : ℕ) → List Part → Rest
 -- Step 8: the spine has ended; what is pending goes at row H + 1.
 place W H r p [] = record { drawn = blank; under = H + 1 }
--- Step 4, the right child hung (or none): its drawing at row H + 1, left edge at column 1; the next node one row below it.
+-- Step 4, the right child hung (or none): its drawing at row H + 1, left edge at column 1; the next node one row below it. H′ is document 01's H at the knee,
+-- whose own row counts.
 place W H r p (part knee k right D ∷ ps) =
     let H′ : ℕ = max H r in
     let n : Rest = place W (H′ + height D) (H′ + height D + 1) 0 ps in

@@ -4,7 +4,7 @@ use crate::roles::choose_roles;
 use crate::roles::is_right;
 use crate::roles::role_at;
 use crate::survey::Survey;
-use crate::survey::onward;
+use crate::survey::past;
 use crate::survey::width_of;
 ghost use mathlib.Core.Path.{_≡_};
 ghost use lib.ListN.{length};
@@ -103,7 +103,7 @@ fn measure_spine(
         let fork = fork_at(table, sizes, at, mirrored);
         let role = role_at(roles, at);
         let width = measure_hung(table, sizes, roles, widest, fork.hung, is_right(role));
-        survey = onward(survey, role, width, fork.spine);
+        survey = past(survey, role, width, fork.spine);
     }
     widest[root] = survey.widest as u16;
     width_of(survey)

@@ -32,7 +32,7 @@ fn turned_at(role: Role, turned: bool) -> bool
 }
 
 // Past a node of the given role, from which a drawing of the given width hangs.
-pub fn onward(survey: Survey, role: Role, width: usize, next: usize) -> Survey
+pub fn past(survey: Survey, role: Role, width: usize, next: usize) -> Survey
     requires { ⌜ width < 65536 ⌝ }
     ensures { λ r. ⌜ Longer survey role width next r ⌝ }
 {

@@ -25,7 +25,7 @@ fn join(p: Point, q: Point) -> u64
 }
 
 // A point, with column and row exchanged or not.
-fn seen(p: Point, across: bool) -> Point
+fn viewed(p: Point, across: bool) -> Point
     ensures { λ r. ⌜ r ≡ view across p ⌝ }
 {
     if across {
@@ -46,7 +46,7 @@ fn aligned(k: u64, across: bool) -> u64
             return k;
         }
     }
-    join(seen(start(k), across), seen(end(k), across))
+    join(viewed(start(k), across), viewed(end(k), across))
 }
 
 // Every line so.
@@ -94,8 +94,8 @@ fn reach_along(lines: &[u64], across: bool) -> Reach
     let mut i = 0;
     while i < lines.len() {
         let k = lines[i];
-        let p = seen(start(k), across);
-        let q = seen(end(k), across);
+        let p = viewed(start(k), across);
+        let q = viewed(end(k), across);
         r = reach_more(r, p.row, q.row);
         i += 1;
     }
@@ -123,7 +123,7 @@ fn lie_flat(lines: &[u64]) -> bool
     abreast(reach_along(lines, true)) < rows
 }
 
-// The lines as they are seen along the axis on which they overlap less.
+// The lines as they are viewed along the axis on which they overlap less.
 pub fn align(lines: &mut [u64])
     requires { ⌜ length (now lines) ≤ 4097 ⌝ }
     ensures { λ _. ⌜ Aligned (length (now (lines .entry))) (now (lines .entry)) (now (lines .exit)) ⌝ }

@@ -8,14 +8,14 @@ use Rattle.bt.proofs.bt_draw.Tie as tie
 draw-requires : tie.Need-draw-requires
 draw-requires c κs = search needs
 
-pack-requires : tie.Need-pack-requires
-pack-requires c κs = search needs
+pack-drawn-requires : tie.Need-pack-drawn-requires
+pack-drawn-requires c κs = search needs
 
 same-length : tie.Need-same-length
 same-length c = search needs
 
 returns : tie.Need-returns
-returns c = let d = c .before .before .before in (c .pack .ensures ∙ ap packed (d .draw .ensures .0), d .draw .ensures .1)
+returns c = let d = c .before .before .before in (c .pack-drawn .ensures ∙ ap packed (d .draw .ensures .0), d .draw .ensures .1)
 
 pub bt-draw-spec : {M : Type 1} → statement M
-bt-draw-spec = tie.close (tie.spec draw-requires pack-requires same-length returns)
+bt-draw-spec = tie.close (tie.spec draw-requires pack-drawn-requires same-length returns)

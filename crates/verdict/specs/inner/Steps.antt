@@ -45,7 +45,7 @@ pub record Packable (p nodes : List ℕ) (n : ℕ) (up : List ℕ) : Type 0 wher
   pub placed-above : (i : ℕ) → i < n → 2 * above up (getD nodes i 0) + 1 < length p
 
 -- The first n lines go to these nodes, from what is above each.
-pub record Packed (p nodes : List ℕ) (n : ℕ) (up l : List ℕ) : Type 0 where
+pub record LinesFromAbove (p nodes : List ℕ) (n : ℕ) (up l : List ℕ) : Type 0 where
   pub starts : (i : ℕ) → i < n → startOf (getD l i 0) ≡ pointOf p (above up (getD nodes i 0))
   pub ends : (i : ℕ) → i < n → endOf (getD l i 0) ≡ nodeAt p nodes i
 

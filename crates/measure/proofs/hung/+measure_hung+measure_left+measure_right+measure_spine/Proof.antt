@@ -28,7 +28,7 @@ use Rattle.measure.proofs.fork_at.Reads as fork-at
 use Rattle.measure.proofs.roles.choose_roles.Reads as choose-roles
 use Rattle.measure.proofs.roles.is_right.Reads as is-right
 use Rattle.measure.proofs.roles.role_at.Reads as role-at
-use Rattle.measure.proofs.survey.onward.Reads as onward
+use Rattle.measure.proofs.survey.past.Reads as past
 use Rattle.measure.proofs.survey.width_of.Reads as width-of
 use Rattle.measure.proofs.hung.+measure_hung+measure_left+measure_right+measure_spine.{statement}
 use Rattle.measure.proofs.hung.+measure_hung+measure_left+measure_right+measure_spine.Tie.{close}
@@ -91,8 +91,8 @@ spine-calls t = (
   is-right.Learnt,
   hung-below t,
   hung.Post,
-  onward.Asked,
-  onward.Learnt,
+  past.Asked,
+  past.Learnt,
   width-of.Asked,
   width-of.Learnt,
 )
@@ -198,21 +198,21 @@ spine-measure-hung-requires t c κs =
     let d = c .before .before .before .before .before .fork-at .ensures in
     (omega (arith, p .0, d .sizes, size-inside _ (p .1 .0) _ _ (l .loop .inv .walking)), (p .1 .0, (d .named-hung, (p .1 .1 .1 .0, (l .loop .inv .long-roles, l .loop .inv .long-widest)))))
 
-spine-onward-requires : (t : ℕ) → spine-lts.Need-onward-requires (spine-calls t) (spine-at t) spine.Post Inv-loop μ-loop
-spine-onward-requires t c κs =
+spine-past-requires : (t : ℕ) → spine-lts.Need-past-requires (spine-calls t) (spine-at t) spine.Post Inv-loop μ-loop
+spine-past-requires t c κs =
     let m = c .before .before .before .before in
     omega (arith, measured-small _ (begun t (m .before .before .before .before .before .before .before .before .before) .pre .1 .0) (m .before .before .before .before .before .before .fork-at .ensures .named-hung) (m .measure-hung .ensures))
 
 spine-loop-less : (t : ℕ) → spine-lts.Need-loop-less (spine-calls t) (spine-at t) spine.Post Inv-loop μ-loop
 spine-loop-less t c =
     let m = c .before .before .before .before .before in
-    omega (arith, ap (λ (k : ℕ). size (treeAt (begun t (m .before .before .before .before .before .before .before .before .before) .args .table .now) k)) (c .onward .ensures .at), m .before .before .before .before .before .before .fork-at .ensures .sizes)
+    omega (arith, ap (λ (k : ℕ). size (treeAt (begun t (m .before .before .before .before .before .before .before .before .before) .args .table .now) k)) (c .past .ensures .at), m .before .before .before .before .before .before .fork-at .ensures .sizes)
 
 spine-loop-again : (t : ℕ) → spine-lts.Need-loop-again (spine-calls t) (spine-at t) spine.Post Inv-loop μ-loop
 spine-loop-again t c =
     let m = c .before .before .before .before .before in
     let l = m .before .before .before .before .before .before .before .before .before in
-    step _ (begun t l .pre .1 .0) _ _ (l .loop .inv) (m .before .before .before .before .before .before .fork-at .ensures) _ (m .before .before .before .before .role-at .ensures) _ (m .before .is-right .ensures) _ _ _ (m .measure-hung .kept .1 .1 .0) (m .measure-hung .kept .1 .1 .1 .0) (m .measure-hung .ensures) _ (c .onward .ensures)
+    step _ (begun t l .pre .1 .0) _ _ (l .loop .inv) (m .before .before .before .before .before .before .fork-at .ensures) _ (m .before .before .before .before .role-at .ensures) _ (m .before .is-right .ensures) _ _ _ (m .measure-hung .kept .1 .1 .0) (m .measure-hung .kept .1 .1 .1 .0) (m .measure-hung .ensures) _ (c .past .ensures)
 
 spine-cast-widest : (t : ℕ) → spine-lts.Need-cast-widest (spine-calls t) (spine-at t) spine.Post Inv-loop μ-loop
 spine-cast-widest t c =
@@ -287,7 +287,7 @@ pub +measure-hung+measure-left+measure-right+measure-spine-spec : {M : Type 1} �
     (spine-role-at-requires t)
     (spine-is-right-requires t)
     (spine-measure-hung-requires t)
-    (spine-onward-requires t)
+    (spine-past-requires t)
     (spine-loop-less t)
     (spine-loop-again t)
     (spine-cast-widest t)

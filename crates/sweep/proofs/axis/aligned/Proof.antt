@@ -11,20 +11,20 @@ returns c = let s = c .before .before in joined-same (s .args .across) (s .args 
 start-requires : tie.Need-start-requires
 start-requires c κs = search needs
 
-seen-requires : tie.Need-seen-requires
-seen-requires c κs = search needs
+viewed-requires : tie.Need-viewed-requires
+viewed-requires c κs = search needs
 
 end-requires : tie.Need-end-requires
 end-requires c κs = search needs
 
-seen-requires-2 : tie.Need-seen-requires-2
-seen-requires-2 c κs = search needs
+viewed-requires-2 : tie.Need-viewed-requires-2
+viewed-requires-2 c κs = search needs
 
 join-requires : tie.Need-join-requires
 join-requires c κs = search needs
 
 returns-2 : tie.Need-returns-2
-returns-2 c = let s = c .before .before .before .before .before .before in joined-by (s .args .across) (s .args .k) (c .before .before .before .before .start .ensures) (c .before .before .end .ensures) (c .before .before .before .seen .ensures) (c .before .seen2 .ensures) (c .join .ensures)
+returns-2 c = let s = c .before .before .before .before .before .before in joined-by (s .args .across) (s .args .k) (c .before .before .before .before .start .ensures) (c .before .before .end .ensures) (c .before .before .before .viewed .ensures) (c .before .viewed2 .ensures) (c .join .ensures)
 
 pub aligned-spec : {M : Type 1} → statement M
 aligned-spec =
@@ -32,8 +32,8 @@ aligned-spec =
     (tie.spec
     returns
     start-requires
-    seen-requires
+    viewed-requires
     end-requires
-    seen-requires-2
+    viewed-requires-2
     join-requires
     returns-2)

@@ -23,14 +23,14 @@ shared-slice-read-k c = search needs
 start-requires : tie.Need-start-requires Inv-loop μ-loop
 start-requires c κs = search needs
 
-seen-requires : tie.Need-seen-requires Inv-loop μ-loop
-seen-requires c κs = search needs
+viewed-requires : tie.Need-viewed-requires Inv-loop μ-loop
+viewed-requires c κs = search needs
 
 end-requires : tie.Need-end-requires Inv-loop μ-loop
 end-requires c κs = search needs
 
-seen-requires-2 : tie.Need-seen-requires-2 Inv-loop μ-loop
-seen-requires-2 c κs = search needs
+viewed-requires-2 : tie.Need-viewed-requires-2 Inv-loop μ-loop
+viewed-requires-2 c κs = search needs
 
 reach-more-requires : tie.Need-reach-more-requires Inv-loop μ-loop
 reach-more-requires c κs = search needs
@@ -57,9 +57,9 @@ reach-along-spec =
     mul-k
     shared-slice-read-k
     start-requires
-    seen-requires
+    viewed-requires
     end-requires
-    seen-requires-2
+    viewed-requires-2
     reach-more-requires
     add-i
     loop-less

@@ -2,7 +2,7 @@
 use native.Mathlib.Omega.{arith}
 use mathlib.Core.Path.{_≡_, refl, ap, _∙_}
 use lib.ListN.{length, length-set}
-use Rattle.verdict.specs.inner.Steps.{above, Packed}
+use Rattle.verdict.specs.inner.Steps.{above, LinesFromAbove}
 use Rattle.verdict.proofs.Parent.{packed-none, packed-more, packed-all}
 use Prim.Native.Nat.{_≤_, _-_}
 use borrow.Author.Needs.{needs}
@@ -10,7 +10,7 @@ use Rattle.verdict.proofs.lines.pack_lines.Statement.{statement}
 use Rattle.verdict.proofs.lines.pack_lines.Tie as tie
 
 abbrev Inv-loop : tie.InvT-loop
-Inv-loop placements nodes n up lines₀ i₀ lines i = (i ≤ n) × (length lines ≡ length lines₀) × Packed placements nodes i up lines
+Inv-loop placements nodes n up lines₀ i₀ lines i = (i ≤ n) × (length lines ≡ length lines₀) × LinesFromAbove placements nodes i up lines
 
 abbrev μ-loop : tie.MeasureT-loop
 μ-loop placements nodes n up lines₀ i₀ lines i = n - i

@@ -1,0 +1,12 @@
+-- `viewed`: by the two cases.
+use Rattle.sweep.proofs.axis.viewed.Statement.{statement}
+use Rattle.sweep.proofs.axis.viewed.Tie as tie
+
+returns : tie.Need-returns
+returns c = rw (c .if1 .taken)
+
+returns-2 : tie.Need-returns-2
+returns-2 c = rw (c .if1 .left)
+
+pub viewed-spec : {M : Type 1} → statement M
+viewed-spec = tie.close (tie.spec returns returns-2)
