@@ -1,4 +1,4 @@
--- Demand 3, for the bytes t and the placements p: what an accepted drawing keeps.
+-- Demand 3 (docs/GROUNDS.md), for the bytes t and the placements p: what an accepted drawing keeps.
 use mathlib.Core.Path.{_≡_}
 use mathlib.Core.Logic.{_≢_}
 use mathlib.Core.List.{List}

@@ -1,2 +1,2 @@
--- Demand 3.
+-- Demand 3: what the drawer accepts is good.
 pub mod Demand
