@@ -20,7 +20,7 @@ use Rattle.layout.proofs.Held.{inside-less}
 use Rattle.measure.specs.inner.Prepared.{codeOf, Prepared, Along, no-spine, onward}
 use Rattle.drawing.specs.Answer.{store}
 use Rattle.measure.specs.inner.Roles.{isSwitch}
-use Rattle.drawing.specs.inner.Placing.{point, kept, finish, finished, Ready}
+use Rattle.drawing.specs.inner.Placing.{withPoint, kept, finish, finished, Ready}
 use Rattle.drawing.proofs.StoredOrder.{DisjointLayouts, store-comm, store-join}
 use Rattle.drawing.proofs.Shapes.{Disjoint, shape-lay}
 use Rattle.drawing.proofs.Columns.{over-edge, over-back}
@@ -86,7 +86,7 @@ module _ (W : ℕ) (a : Side) (e H r k : ℕ) (s : Side) (S Q : Tree) (ls : List
   after-ordinary = lay a e f (roleNext a ordinary ls) (r + heightOn a S) (r + max 1 (heightOn a S)) (heightOn a Q) ls
 
   pub knee-far : far a s ≡ true →
-      finished W a e (roleNext a knee ls) (max H r + heightOn a S) (max H r + heightOn a S + 1) none ls (store (hungOn a (inwards a e 1) (max H r + 1) S) (point k e r p))
+      finished W a e (roleNext a knee ls) (max H r + heightOn a S) (max H r + heightOn a S + 1) none ls (store (hungOn a (inwards a e 1) (max H r + 1) S) (withPoint k e r p))
       ≡ finished W a e knee H r Q (hangs k s S ∷ ls) p
   unfolding lay
   knee-far h = finished-none W a e _ _ _ ls _ ∙ sym (at-knee ∙ (ap (λ (L : Layout). store L p) laid ∙ store-join k (at e r) s _ _ p (apart-laid a a _ e _ _ _ _ _ _ S ls apart)))
@@ -95,7 +95,7 @@ module _ (W : ℕ) (a : Side) (e H r k : ℕ) (s : Side) (S Q : Tree) (ls : List
       laid = rw (h, lay)
 
   pub knee-near : far a s ≡ false →
-      finished W a e (roleNext a knee ls) (max H r) (max H r + 1) S ls (point k e r p) ≡ finished W a e knee H r Q (hangs k s S ∷ ls) p
+      finished W a e (roleNext a knee ls) (max H r) (max H r + 1) S ls (withPoint k e r p) ≡ finished W a e knee H r Q (hangs k s S ∷ ls) p
   unfolding lay finish
   knee-near h = finished-run W a e knee _ _ S ls _ refl ∙ (store-comm _ _ _ sides ∙ sym (at-knee ∙ (ap (λ (L : Layout). store L p) laid ∙ store-join k (at e r) s _ _ p sides)))
     where
@@ -105,7 +105,7 @@ module _ (W : ℕ) (a : Side) (e H r k : ℕ) (s : Side) (S Q : Tree) (ls : List
       sides : DisjointLayouts (hungOn a (inwards a e 1) (after-near .under) S) (after-near .drawn)
       sides = apart-laid a a _ e _ _ _ _ _ _ S ls apart
 
-  pub ordinary-on : finished W a e (roleNext a ordinary ls) (r + heightOn a S) (r + max 1 (heightOn a S)) Q ls (store (hungOn a (inwards a e 2) (r + 1) S) (point k (inwards a e 1) r p))
+  pub ordinary-on : finished W a e (roleNext a ordinary ls) (r + heightOn a S) (r + max 1 (heightOn a S)) Q ls (store (hungOn a (inwards a e 2) (r + 1) S) (withPoint k (inwards a e 1) r p))
       ≡ finished W a e ordinary H r Q (hangs k s S ∷ ls) p
   unfolding lay finish finished kept
   ordinary-on = finished-run W a e ordinary _ _ Q ls _ refl ∙ ap (store (hungOn a (inwards a e 1) (after-ordinary .under) Q)) (sym (store-join k (at (inwards a e 1) r) s _ _ p (apart-laid a a _ e _ _ _ _ _ _ S ls apart)))
@@ -114,7 +114,7 @@ module _ (W : ℕ) (a : Side) (e H r k : ℕ) (s : Side) (S Q : Tree) (ls : List
   after-switch g = lay (opposite a) f g (roleNext (opposite a) switch ls) (r + heightOn a S + heightOn a Q) (r + 1) 0 ls
 
   abbrev drawn-both : List ℕ
-  drawn-both = store (hungOn a (inwards a e 1) (r + heightOn a S + 1) Q) (store (hungOn a (inwards a e 1) (r + 1) S) (point k (inwards a e 1) r p))
+  drawn-both = store (hungOn a (inwards a e 1) (r + heightOn a S + 1) Q) (store (hungOn a (inwards a e 1) (r + 1) S) (withPoint k (inwards a e 1) r p))
 
   pub switch-over : Inside 65536 a e (W + 3) → Disjoint Q (spineTree ls) →
       finished W (opposite a) f (roleNext (opposite a) switch ls) (r + heightOn a S + heightOn a Q) (r + 1) none ls drawn-both ≡ finished W a e switch H r Q (hangs k s S ∷ ls) p

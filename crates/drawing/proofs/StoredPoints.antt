@@ -18,6 +18,7 @@ use Rattle.layout.specs.Layout.{Layout, blank, placed}
 use Rattle.layout.proofs.Clean.{Node, root, below, point, recordOf}
 use Rattle.layout.proofs.Rows.{shape}
 use Rattle.drawing.specs.Answer.{store}
+use Rattle.drawing.specs.inner.Placing.{withPoint}
 
 -- How often a layout has the record k.
 abbrev pub times : ℕ → Layout → ℕ
@@ -29,7 +30,7 @@ pointAt p k = at (getD p (2 * k) 0) (getD p (2 * k + 1) 0)
 
 -- A point stored at a record's entries.
 abbrev pub pair : List ℕ → ℕ → Point → List ℕ
-pair p k P = set (set p (2 * k) (P .column)) (2 * k + 1) (P .row)
+pair p k P = withPoint k (P .column) (P .row) p
 
 pub store-length : (L : Layout) (p : List ℕ) → length (store L p) ≡ length p
 unfolding store

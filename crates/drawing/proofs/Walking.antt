@@ -24,7 +24,7 @@ use Rattle.measure.specs.inner.Roles.{handOf as sideOfCoded, roleOf, isSwitch}
 use Rattle.measure.proofs.Choices.{code-same, code-small}
 use Rattle.drawing.specs.Answer.{store}
 use Rattle.drawing.specs.declared.place.Walk.{Walk}
-use Rattle.drawing.specs.inner.Placing.{isKnee, point, Given, Hanging, Hung, finished, Ready, walkTo, handAt, Going, Stepped}
+use Rattle.drawing.specs.inner.Placing.{isKnee, withPoint, Given, Hanging, Hung, finished, Ready, walkTo, handAt, Going, Stepped}
 use Rattle.drawing.proofs.Shapes.{Disjoint}
 use Rattle.drawing.proofs.Columns.{inside-edge, inside-count, side-not}
 use Rattle.drawing.proofs.Onward.{knee-far, knee-near, ordinary-on, switch-over, bottom-far, bottom-near, bottom-over, along-role, along-hung, at-knee-room, at-ordinary-room, at-switch-width, at-switch-room, ready-far, ready-near, ready-ordinary, ready-switch, rows-far, rows-knee, rows-ordinary, rows-switch}
@@ -140,21 +140,21 @@ module _ (t roles widest : List ℕ) (w : Walk) (spine hung : ℕ) (h : Side) (f
 
   -- A knee, its child hung on the far side.
   pub stepped-far : (p : List ℕ) → far a h ≡ true → Going t roles widest knee w →
-      Stepped t roles widest knee w p (walkTo w spine (H + heightOn a S + 1) (H + heightOn a S) 0 (w .right) (w .edge)) (store (hungOn a (inwards a (w .edge) 1) (H + 1) S) (point (w .at) (w .edge) (w .row) p))
+      Stepped t roles widest knee w p (walkTo w spine (H + heightOn a S + 1) (H + heightOn a S) 0 (w .right) (w .edge)) (store (hungOn a (inwards a (w .edge) 1) (H + 1) S) (withPoint (w .at) (w .edge) (w .row) p))
   stepped-far p e g = went knee _ _ _ 0 (w .right) (w .edge) p _ none (tree-none t) (inl refl) (once-none knee g) none-less
       (ready-far roles widest (w .widest) a (w .edge) _ _ (w .at) h S Q _ e (here knee g))
       (knee-far (w .widest) a (w .edge) _ _ (w .at) h S Q _ p (apart knee g) e) (bottom-far a h _ _ _ (w .at) S _ e)
 
   -- A knee, its child on the near side: pending.
   pub stepped-near : (p : List ℕ) → far a h ≡ false → Going t roles widest knee w →
-      Stepped t roles widest knee w p (walkTo w spine (H + 1) H hung (w .right) (w .edge)) (point (w .at) (w .edge) (w .row) p)
+      Stepped t roles widest knee w p (walkTo w spine (H + 1) H hung (w .right) (w .edge)) (withPoint (w .at) (w .edge) (w .row) p)
   stepped-near p e g = went knee _ _ _ hung (w .right) (w .edge) p _ S refl (f .named-hung) (λ k. omega (arith, g .once k, counts k)) (omega arith)
       (ready-near roles widest (w .widest) a (w .edge) _ _ (w .at) h S Q _ e (here knee g))
       (knee-near (w .widest) a (w .edge) _ _ (w .at) h S Q _ p (apart knee g) e) (bottom-near a h _ _ _ (w .at) S _ e)
 
   pub stepped-ordinary : (p : List ℕ) → Going t roles widest ordinary w →
       Stepped t roles widest ordinary w p (walkTo w spine (w .row + max 1 (heightOn a S)) (w .row + heightOn a S) (w .pending) (w .right) (w .edge))
-      (store (hungOn a (inwards a (w .edge) 2) (w .row + 1) S) (point (w .at) (inwards a (w .edge) 1) (w .row) p))
+      (store (hungOn a (inwards a (w .edge) 2) (w .row + 1) S) (withPoint (w .at) (inwards a (w .edge) 1) (w .row) p))
   unfolding bottom
   stepped-ordinary p g = went ordinary _ _ _ (w .pending) (w .right) (w .edge) p _ Q refl (g .named-pending) (λ k. omega (arith, g .once k, counts k)) (omega arith)
       (ready-ordinary roles widest (w .widest) a (w .edge) _ _ (w .at) h S Q _ (here ordinary g))
@@ -162,7 +162,7 @@ module _ (t roles widest : List ℕ) (w : Walk) (spine hung : ℕ) (h : Side) (f
 
   pub stepped-switch : (p : List ℕ) → Going t roles widest switch w →
       Stepped t roles widest switch w p (walkTo w spine (w .row + 1) (w .row + heightOn a S + heightOn a Q) 0 (not (w .right)) (inwards a (w .edge) (w .widest + 2)))
-      (store (hungOn a (inwards a (w .edge) 1) (w .row + heightOn a S + 1) Q) (store (hungOn a (inwards a (w .edge) 1) (w .row + 1) S) (point (w .at) (inwards a (w .edge) 1) (w .row) p)))
+      (store (hungOn a (inwards a (w .edge) 1) (w .row + heightOn a S + 1) Q) (store (hungOn a (inwards a (w .edge) 1) (w .row + 1) S) (withPoint (w .at) (inwards a (w .edge) 1) (w .row) p)))
   stepped-switch p g = went switch (roleNext (opposite a) switch (spineOn s R)) _ _ 0 (not (w .right)) _ p _ none (tree-none t) (inl refl) (once-none switch g) none-less
       (rw (side-not (w .right)) (ready-switch roles widest (w .widest) a (w .edge) _ _ (w .at) h S Q _ (here switch g)))
       (rw (side-not (w .right)) (switch-over (w .widest) a (w .edge) _ _ (w .at) h S Q _ p (apart switch g) (at-switch-room (here switch g .rooms)) (apart-pending switch g)))
@@ -220,24 +220,24 @@ module _ (t roles widest : List ℕ) (w : Walk) (spine hung : ℕ) (h : Side) (f
   stepped-as : (o : Role) (p : List ℕ) (w₁ w₂ : Walk) (p₁ p₂ : List ℕ) → w₂ ≡ w₁ → p₂ ≡ p₁ → Stepped t roles widest o w p w₁ p₁ → Stepped t roles widest o w p w₂ p₂
   stepped-as o p w₁ w₂ p₁ p₂ d e m = subst₂ (Stepped t roles widest o w p) (sym d) (sym e) m
 
-  pub after-far : (p p₁ p₂ : List ℕ) (low below : ℕ) (w′ : Walk) → low ≡ H → p₁ ≡ point (w .at) (w .edge) (w .row) p → Hung t a hung (inwards a (w .edge) 1) (low + 1) p₁ below p₂ →
+  pub after-far : (p p₁ p₂ : List ℕ) (low below : ℕ) (w′ : Walk) → low ≡ H → p₁ ≡ withPoint (w .at) (w .edge) (w .row) p → Hung t a hung (inwards a (w .edge) 1) (low + 1) p₁ below p₂ →
       w′ ≡ walkTo w spine below (below - 1) 0 (w .right) (w .edge) → far a h ≡ true → Going t roles widest knee w → Stepped t roles widest knee w p w′ p₂
   after-far p p₁ p₂ low below w′ l q d v x g =
       stepped-as knee p _ _ _ _ (v ∙ ap₂ (λ (m n : ℕ). walkTo w spine m n 0 (w .right) (w .edge)) (omega (arith, d .ends)) (omega (arith, d .ends)))
       (d .stored ∙ cc) (stepped-far p x g)
 
-  pub after-near : (p p₁ : List ℕ) (low : ℕ) (w′ : Walk) → low ≡ H → p₁ ≡ point (w .at) (w .edge) (w .row) p → w′ ≡ walkTo w spine (low + 1) low hung (w .right) (w .edge) →
+  pub after-near : (p p₁ : List ℕ) (low : ℕ) (w′ : Walk) → low ≡ H → p₁ ≡ withPoint (w .at) (w .edge) (w .row) p → w′ ≡ walkTo w spine (low + 1) low hung (w .right) (w .edge) →
       far a h ≡ false → Going t roles widest knee w → Stepped t roles widest knee w p w′ p₁
   after-near p p₁ low w′ l q v x g = stepped-as knee p _ _ _ _ (v ∙ ap (λ (m : ℕ). walkTo w spine (m + 1) m hung (w .right) (w .edge)) l) q (stepped-near p x g)
 
-  pub after-ordinary : (p p₁ p₂ : List ℕ) (column below next : ℕ) (w′ : Walk) → column ≡ inwards a (w .edge) 1 → p₁ ≡ point (w .at) column (w .row) p →
+  pub after-ordinary : (p p₁ p₂ : List ℕ) (column below next : ℕ) (w′ : Walk) → column ≡ inwards a (w .edge) 1 → p₁ ≡ withPoint (w .at) column (w .row) p →
       Hung t a hung (inwards a (w .edge) 2) (w .row + 1) p₁ below p₂ → next ≡ max (w .row + 1) (below - 1) → w′ ≡ walkTo w spine next (below - 1) (w .pending) (w .right) (w .edge) →
       Going t roles widest ordinary w → Stepped t roles widest ordinary w p w′ p₂
   after-ordinary p p₁ p₂ column below next w′ c q d n v g =
       stepped-as ordinary p _ _ _ _ (v ∙ ap₂ (λ (m n : ℕ). walkTo w spine m n (w .pending) (w .right) (w .edge)) (omega (arith, d .ends)) (omega (arith, d .ends)))
       (d .stored ∙ cc) (stepped-ordinary p g)
 
-  pub after-switch : (p p₁ p₂ p₃ : List ℕ) (column under below other : ℕ) → column ≡ inwards a (w .edge) 1 → p₁ ≡ point (w .at) column (w .row) p → Hung t a hung (inwards a (w .edge) 1) (w .row + 1) p₁ under p₂ →
+  pub after-switch : (p p₁ p₂ p₃ : List ℕ) (column under below other : ℕ) → column ≡ inwards a (w .edge) 1 → p₁ ≡ withPoint (w .at) column (w .row) p → Hung t a hung (inwards a (w .edge) 1) (w .row + 1) p₁ under p₂ →
       Hung t a (w .pending) (inwards a (w .edge) 1) under p₂ below p₃ → other ≡ inwards a (w .edge) (w .widest + 2) → Going t roles widest switch w →
       Stepped t roles widest switch w p (walkTo w spine (w .row + 1) (below - 1) 0 (not (w .right)) other) p₃
   after-switch p p₁ p₂ p₃ column under below other c q d d′ o g =

@@ -14,7 +14,7 @@ ghost use Rattle.layout.specs.Spine.{Role as LayoutRole, knee, ordinary, switch
 ghost use Rattle.layout.specs.inner.Held.{inwards as inwardsOf, far, Inside};
 ghost use Rattle.measure.specs.inner.Forked.{sideOf, Forked};
 ghost use Rattle.measure.specs.inner.Roles.{roleOf};
-ghost use Rattle.drawing.specs.inner.Placing.{isKnee, point, handAt, walkTo, Given, Hanging, Hung, Going, Stepped};
+ghost use Rattle.drawing.specs.inner.Placing.{isKnee, withPoint, handAt, walkTo, Given, Hanging, Hung, Going, Stepped};
 
 // A walk along the spine of a drawing: the next node and its row, the lowest row used so far, the pending child, 0 for none; the hand that the node
 // is on, and its edge; W of the spine, and whether its drawing is on the right side.
@@ -60,7 +60,7 @@ fn is_knee(role: Role) -> bool
 fn set_point(points: &mut [u16], k: usize, column: usize, row: usize)
     requires { ⌜ 2 * k + 1 < length (now points) ⌝ }
     requires { ⌜ (column < 65536) × (row < 65536) ⌝ }
-    ensures { λ _. ⌜ now (points .exit) ≡ point k column row (now (points .entry)) ⌝ }
+    ensures { λ _. ⌜ now (points .exit) ≡ withPoint k column row (now (points .entry)) ⌝ }
 {
     let place = 2 * k;
     points[place] = column as u16;

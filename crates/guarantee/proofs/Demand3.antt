@@ -17,14 +17,13 @@ use Rattle.layout.specs.Layout.{Layout, width}
 use Rattle.layout.specs.Drawing.{drawing, draw}
 use Rattle.layout.proofs.Theorem.{promise}
 use Rattle.layout.proofs.Records.{Agrees, Checked, drawn-checked}
-use Rattle.drawing.specs.Answer.{store, planOf, drawnOf, placedIn}
+use Rattle.drawing.specs.Answer.{store, planOf, drawnOf}
 use Rattle.drawing.specs.declared.Drawn.{Drawn}
-use Rattle.drawing.proofs.StoredPoints.{times, store-point}
-use Rattle.drawing.proofs.Elsewhere.{as-many}
+use Rattle.drawing.proofs.StoredPoints.{times, store-length, store-point}
 use Rattle.drawing.proofs.Answered.{Accepted, accepted, drawn-refusal}
 use Rattle.verdict.specs.Lines.{pointOf}
 use Rattle.verdict.specs.Conditions.{SamePoint, NotLower, Touching, OutOfOrder}
-use Rattle.verdict.specs.Verdict.{FirstOf, conditions}
+use Rattle.verdict.specs.Verdict.{FirstOf, conditions, Verdict}
 use Rattle.width.specs.Allowed.{floorLog2, allowedWidth}
 use Rattle.width.proofs.FloorLog2.{floor-bounds, allowed-some}
 use Rattle.guarantee.specs.Demand.{Kept}
@@ -87,7 +86,7 @@ narrow t ok = go (length (chain t)) (size-chain t ok) (omega (arith, chain-lengt
 pub kept : (t p : List ℕ) → drawnOf t p .refusal ≡ 0 → Kept t p
 unfolding planOf
 kept t p e = record {
-  good = inr (rw (as-many t p) none-refused, good t (placedIn t p) ok (drawn-checked (tree t) (pointOf (placedIn t p)) (subst (λ (q : List ℕ). Agrees (pointOf q) (draw (tree t))) (sym (a .after)) (agrees t p ok long))));
+  good = subst (λ (q : List ℕ). Verdict t q 0) (sym (a .after)) stored-good;
   narrow = subst (λ (d : Drawn). d .plan .width ≤ allowedWidth (length (chain t))) (sym (a .drawn)) (narrow t ok);
   short = subst (λ (d : Drawn). d .plan .height ≤ length (chain t)) (sym (a .drawn)) (omega (arith, promise (tree t) .short, size-chain t ok));
 }
@@ -103,3 +102,7 @@ kept t p e = record {
 
     long : 2 * records t ≤ length p
     long = refusal-none t (length p) .0 none-refused .1
+
+    -- the check of the placements with the drawing stored
+    stored-good : Verdict t (store (draw (tree t)) p) 0
+    stored-good = inr (rw (store-length (draw (tree t)) p) none-refused, good t (store (draw (tree t)) p) ok (drawn-checked (tree t) (pointOf (store (draw (tree t)) p)) (agrees t p ok long)))

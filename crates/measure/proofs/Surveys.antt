@@ -208,7 +208,7 @@ pub record Measuring (t : List ℕ) (s : Side) (root : ℕ) (R₀ W₀ R W : Lis
   pub long-widest : length W ≡ 4097
   pub hand : Side
   pub role : Role
-  pub walking : Surveying t s root R₀ W₀ R W (v .at) (v .widest) (v .reach) (v .turned) hand role
+  pub surveying : Surveying t s root R₀ W₀ R W (v .at) (v .widest) (v .reach) (v .turned) hand role
 
 moved : {t : List ℕ} {s a : Side} {o : Role} {root k k′ g g′ e e′ : ℕ} {b b′ : Bool} {R₀ W₀ R W : List ℕ} → k′ ≡ k → g′ ≡ g → e′ ≡ e → b′ ≡ b → Surveying t s root R₀ W₀ R W k g e b a o → Surveying t s root R₀ W₀ R W k′ g′ e′ b′ a o
 moved p q r u w = rw (p, q, r, u) w
@@ -226,7 +226,7 @@ measured-small t ok {s} {k} n m = omega (arith, m .wide, width-small s (treeAt t
 
 module _ (t : List ℕ) (ok : fault t ≡ 0) (s : Side) (root : ℕ) {R₀ W₀ R W : List ℕ} {v : Survey} (c : Measuring t s root R₀ W₀ R W v) {next hung : ℕ} {h : Side} (d : Forked t s (v .at) next hung h) where
   pub role-small : getD R (v .at) 0 < 6
-  role-small = omega (arith, coded-here t ok s root (c .walking) d .0, code-small (hand t ok s root (c .walking) d) (role t ok s root (c .walking) d))
+  role-small = omega (arith, coded-here t ok s root (c .surveying) d .0, code-small (hand t ok s root (c .surveying) d) (role t ok s root (c .surveying) d))
 
   pub step : (r : CodeRole) → getD R (v .at) 0 ≡ codeOf (handOf r) (roleOf r) → (u : Side) → u ≡ handOf r → (R′ W′ : List ℕ) (w : ℕ) → length R′ ≡ length R → length W′ ≡ length W → Measured t u hung R W R′ W′ w →
       (v′ : Survey) → Longer v r w next v′ → Measuring t s root R₀ W₀ R′ W′ v′
@@ -235,9 +235,9 @@ module _ (t : List ℕ) (ok : fault t ≡ 0) (s : Side) (root : ℕ) {R₀ W₀ 
     long-widest = lg ∙ c .long-widest;
     hand = _;
     role = _;
-    walking = moved (l .at) (l .widest) (l .reach ∙ ap (λ (o : Role). max (v .reach) (edge o + w)) (same .1)) (l .turned ∙ ap (λ (o : Role). turn o (v .turned)) (same .1))
-        (pass t ok s root (c .walking) d R′ W′ w (subst (λ (a : Side). Measured t a hung R W R′ W′ w) (i ∙ same .0) m));
+    surveying = moved (l .at) (l .widest) (l .reach ∙ ap (λ (o : Role). max (v .reach) (edge o + w)) (same .1)) (l .turned ∙ ap (λ (o : Role). turn o (v .turned)) (same .1))
+        (pass t ok s root (c .surveying) d R′ W′ w (subst (λ (a : Side). Measured t a hung R W R′ W′ w) (i ∙ same .0) m));
   }
     where
-      same : (handOf r ≡ hand t ok s root (c .walking) d) × (roleOf r ≡ role t ok s root (c .walking) d)
-      same = code-same _ _ _ _ (sym e ∙ coded-here t ok s root (c .walking) d .0)
+      same : (handOf r ≡ hand t ok s root (c .surveying) d) × (roleOf r ≡ role t ok s root (c .surveying) d)
+      same = code-same _ _ _ _ (sym e ∙ coded-here t ok s root (c .surveying) d .0)

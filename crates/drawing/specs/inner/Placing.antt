@@ -19,8 +19,8 @@ use Rattle.drawing.specs.declared.place.Walk.{Walk}
 use Rattle.drawing.specs.Answer.{store}
 
 -- The placements with the point of record k.
-abbrev pub point : (k column row : ℕ) → List ℕ → List ℕ
-point k column row p = set (set p (2 * k) column) (2 * k + 1) row
+abbrev pub withPoint : (k column row : ℕ) → List ℕ → List ℕ
+withPoint k column row p = set (set p (2 * k) column) (2 * k + 1) row
 
 abbrev pub isKnee : Role → Bool
 isKnee knee = true

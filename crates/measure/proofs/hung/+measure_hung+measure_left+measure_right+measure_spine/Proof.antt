@@ -153,10 +153,10 @@ right-returns : (t : ℕ) → right-lts.Need-returns (right-calls t) (right-at t
 right-returns t c = c .before .before .before .before .measure-spine .ensures
 
 abbrev Inv-loop : spine-lts.InvT-loop
-Inv-loop table sizes roles₀ widest₀ root mirrored walk₀ roles widest survey = Measuring table (sideOf mirrored) root roles₀ widest₀ roles widest survey
+Inv-loop table sizes roles₀ widest₀ root mirrored survey₀ roles widest survey = Measuring table (sideOf mirrored) root roles₀ widest₀ roles widest survey
 
 abbrev μ-loop : spine-lts.MeasureT-loop
-μ-loop table sizes roles₀ widest₀ root mirrored walk₀ roles widest survey = size (treeAt table (survey .at))
+μ-loop table sizes roles₀ widest₀ root mirrored survey₀ roles widest survey = size (treeAt table (survey .at))
 
 -- The function's entry, from the loop's head.
 abbrev begun : (t : ℕ) → spine-lts.At-loop (spine-calls t) (spine-at t) spine.Post Inv-loop μ-loop → spine-lts.Start (spine-calls t) (spine-at t) spine.Post Inv-loop μ-loop
@@ -174,19 +174,19 @@ spine-loop-holds t c =
       long-widest = p .1 .1 .1 .1;
       hand = _;
       role = _;
-      walking = start _ (p .0) _ _ (inr (p .1 .0)) _ _ (p .1 .1 .1 .0) _ (r .ensures);
+      surveying = start _ (p .0) _ _ (inr (p .1 .0)) _ _ (p .1 .1 .1 .0) _ (r .ensures);
     }
 
 spine-fork-at-requires : (t : ℕ) → spine-lts.Need-fork-at-requires (spine-calls t) (spine-at t) spine.Post Inv-loop μ-loop
 spine-fork-at-requires t c κs =
     let p = begun t (c .before .before) .pre .1 in
-    (p .0, (chained _ _ (c .before .before .loop .inv .walking .named) (c .if1 .taken), p .1 .1 .0))
+    (p .0, (chained _ _ (c .before .before .loop .inv .surveying .named) (c .if1 .taken), p .1 .1 .0))
 
 spine-role-at-requires : (t : ℕ) → spine-lts.Need-role-at-requires (spine-calls t) (spine-at t) spine.Post Inv-loop μ-loop
 spine-role-at-requires t c κs =
     let l = c .before .before .before .before in
     let p = begun t l .pre .1 in
-    (omega (arith, named-within _ (p .0) _ (l .loop .inv .walking .named), l .loop .inv .long-roles), role-small _ (p .0) _ _ (l .loop .inv) (c .before .fork-at .ensures))
+    (omega (arith, named-within _ (p .0) _ (l .loop .inv .surveying .named), l .loop .inv .long-roles), role-small _ (p .0) _ _ (l .loop .inv) (c .before .fork-at .ensures))
 
 spine-is-right-requires : (t : ℕ) → spine-lts.Need-is-right-requires (spine-calls t) (spine-at t) spine.Post Inv-loop μ-loop
 spine-is-right-requires t c κs = tt
@@ -196,7 +196,7 @@ spine-measure-hung-requires t c κs =
     let l = c .before .before .before .before .before .before .before .before in
     let p = begun t l .pre in
     let d = c .before .before .before .before .before .fork-at .ensures in
-    (omega (arith, p .0, d .sizes, size-inside _ (p .1 .0) _ _ (l .loop .inv .walking)), (p .1 .0, (d .named-hung, (p .1 .1 .1 .0, (l .loop .inv .long-roles, l .loop .inv .long-widest)))))
+    (omega (arith, p .0, d .sizes, size-inside _ (p .1 .0) _ _ (l .loop .inv .surveying)), (p .1 .0, (d .named-hung, (p .1 .1 .1 .0, (l .loop .inv .long-roles, l .loop .inv .long-widest)))))
 
 spine-past-requires : (t : ℕ) → spine-lts.Need-past-requires (spine-calls t) (spine-at t) spine.Post Inv-loop μ-loop
 spine-past-requires t c κs =
@@ -218,7 +218,7 @@ spine-cast-widest : (t : ℕ) → spine-lts.Need-cast-widest (spine-calls t) (sp
 spine-cast-widest t c =
     let l = c .before .before .before in
     let p = begun t l .pre .1 in
-    omega (arith, widest-small _ (p .0) _ _ (p .1 .0) (l .loop .inv .walking))
+    omega (arith, widest-small _ (p .0) _ _ (p .1 .0) (l .loop .inv .surveying))
 
 spine-mul-widest : (t : ℕ) → spine-lts.Need-mul-widest (spine-calls t) (spine-at t) spine.Post Inv-loop μ-loop
 spine-mul-widest t c =
@@ -235,7 +235,7 @@ spine-width-of-requires : (t : ℕ) → spine-lts.Need-width-of-requires (spine-
 spine-width-of-requires t c κs =
     let l = c .before .before .before in
     let p = begun t l .pre .1 in
-    omega (arith, widest-small _ (p .0) _ _ (p .1 .0) (l .loop .inv .walking))
+    omega (arith, widest-small _ (p .0) _ _ (p .1 .0) (l .loop .inv .surveying))
 
 spine-same-length : (t : ℕ) → spine-lts.Need-same-length (spine-calls t) (spine-at t) spine.Post Inv-loop μ-loop
 spine-same-length t c =
@@ -251,7 +251,7 @@ spine-returns : (t : ℕ) → spine-lts.Need-returns (spine-calls t) (spine-at t
 spine-returns t c =
     let l = c .before .before .before .before in
     let p = begun t l .pre .1 in
-    measured _ (p .0) _ _ (p .1 .0) (l .loop .inv .walking) _ (l .before .before .before .choose-roles .ensures) (l .loop .inv .long-widest) (c .before .before .if1 .left) _ (c .width-of .ensures)
+    measured _ (p .0) _ _ (p .1 .0) (l .loop .inv .surveying) _ (l .before .before .before .choose-roles .ensures) (l .loop .inv .long-widest) (c .before .before .if1 .left) _ (c .width-of .ensures)
 
 pub +measure-hung+measure-left+measure-right+measure-spine-spec : {M : Type 1} → statement M
 +measure-hung+measure-left+measure-right+measure-spine-spec =
