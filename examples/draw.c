@@ -1,6 +1,12 @@
-/* Draws a tree of three nodes, checks the drawing, and prints it. See examples/check. */
+/* Draws a tree of three nodes, checks the drawing, and prints it; then draws the tree wide. See examples/check. */
 #include <stdio.h>
 #include "bt.h"
+
+static void print_points(const uint16_t *placements)
+{
+    for (int k = 1; k <= 3; k++)
+        printf("%d at column %u, row %u\n", k, placements[2 * k], placements[2 * k + 1]);
+}
 
 int main(void)
 {
@@ -19,7 +25,9 @@ int main(void)
     }
     printf("%u nodes, %u wide (at most %u), %u high, check %u\n", bt_nodes(drawn), bt_width(drawn), (unsigned)bt_allowed_width(bt_nodes(drawn)), bt_height(drawn),
            (unsigned)bt_check(table, sizeof table, placements, 8));
-    for (int k = 1; k <= 3; k++)
-        printf("%d at column %u, row %u\n", k, placements[2 * k], placements[2 * k + 1]);
+    print_points(placements);
+    drawn = bt_draw_wide(table, sizeof table, placements, 8);
+    printf("wide: %u wide, %u high (at most %u)\n", bt_width(drawn), bt_height(drawn), (unsigned)bt_allowed_width(bt_nodes(drawn)));
+    print_points(placements);
     return 0;
 }

@@ -1,4 +1,4 @@
-// Draws a tree of three nodes, checks the drawing, and prints it. See examples/check.
+// Draws a tree of three nodes, checks the drawing, and prints it; then draws the tree wide. See examples/check.
 
 // The library's functions over slices: a slice is passed as a pointer and a length.
 mod bt {
@@ -6,6 +6,7 @@ mod bt {
         #[link(name = "bt", kind = "static")]
         extern "C" {
             pub fn bt_draw(table: *const u8, table_len: usize, placements: *mut u16, placements_len: usize) -> u64;
+            pub fn bt_draw_wide(table: *const u8, table_len: usize, placements: *mut u16, placements_len: usize) -> u64;
             pub fn bt_check(table: *const u8, table_len: usize, placements: *const u16, placements_len: usize) -> u32;
             pub fn bt_allowed_width(nodes: u64) -> u64;
         }
@@ -18,10 +19,17 @@ mod bt {
         pub height: u16,
     }
 
+    fn parts(d: u64) -> Drawn {
+        Drawn { refusal: d as u16, nodes: (d >> 16) as u16, width: (d >> 32) as u16, height: (d >> 48) as u16 }
+    }
+
     // Safe for all slices: the functions have no precondition but that the pointers and lengths are those of slices.
     pub fn draw(table: &[u8], placements: &mut [u16]) -> Drawn {
-        let d = unsafe { raw::bt_draw(table.as_ptr(), table.len(), placements.as_mut_ptr(), placements.len()) };
-        Drawn { refusal: d as u16, nodes: (d >> 16) as u16, width: (d >> 32) as u16, height: (d >> 48) as u16 }
+        parts(unsafe { raw::bt_draw(table.as_ptr(), table.len(), placements.as_mut_ptr(), placements.len()) })
+    }
+
+    pub fn draw_wide(table: &[u8], placements: &mut [u16]) -> Drawn {
+        parts(unsafe { raw::bt_draw_wide(table.as_ptr(), table.len(), placements.as_mut_ptr(), placements.len()) })
     }
 
     pub fn check(table: &[u8], placements: &[u16]) -> u32 {
@@ -30,6 +38,12 @@ mod bt {
 
     pub fn allowed_width(nodes: u64) -> u64 {
         unsafe { raw::bt_allowed_width(nodes) }
+    }
+}
+
+fn print_points(placements: &[u16]) {
+    for k in 1..=3 {
+        println!("{} at column {}, row {}", k, placements[2 * k], placements[2 * k + 1]);
     }
 }
 
@@ -51,7 +65,8 @@ fn main() {
         drawn.height,
         bt::check(&table, &placements)
     );
-    for k in 1..=3 {
-        println!("{} at column {}, row {}", k, placements[2 * k], placements[2 * k + 1]);
-    }
+    print_points(&placements);
+    let drawn = bt::draw_wide(&table, &mut placements);
+    println!("wide: {} wide, {} high (at most {})", drawn.width, drawn.height, bt::allowed_width(drawn.nodes.into()));
+    print_points(&placements);
 }

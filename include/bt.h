@@ -25,15 +25,23 @@ extern "C" {
  *   4 a left or right leaves the table or the chain    5 not one tree over the chain         6 placements shorter than 2 times the records */
 uint64_t bt_draw(const uint8_t *table, size_t table_len, uint16_t *placements, size_t placements_len);
 
+/* Draws the tree of a table for a sheet that is wide and low: the mirror image of the tree, left and right of every node exchanged, as bt_draw draws it, with column
+ * and row of every node then exchanged, and width and height as well. So the height is at most bt_allowed_width of the nodes, and the width at most their number.
+ * Writes the column and the row of every node on the chain, and no other entry, and answers as bt_draw does. A refusal is its number alone, 1 to 6 for the causes
+ * that bt_draw has: all other bits are 0, and all placements are kept. bt_check is for upright drawings: it says good of a wide one when columns and rows are
+ * exchanged, and left and right of every node on the chain. */
+uint64_t bt_draw_wide(const uint8_t *table, size_t table_len, uint16_t *placements, size_t placements_len);
+
 /* Checks any placements against a table, and writes nothing. Answers 0 for a good drawing, a refusal 1 to 6, or the first of these that holds:
  *   21 two nodes at one point    22 a child not lower than its parent    23 two lines share more than a common end, or a node lies on a line that it does not end
  *   24 a left child not left of its right sibling, seen from their parent */
 uint32_t bt_check(const uint8_t *table, size_t table_len, const uint16_t *placements, size_t placements_len);
 
-/* The width that a drawing of so many nodes may have: 3 * floor(log2 nodes) + 1; 0 for 0 nodes and for more than 4,096. bt_draw keeps to it. */
+/* The width that a drawing of so many nodes may have: 3 * floor(log2 nodes) + 1; 0 for 0 nodes and for more than 4,096. The width of
+ * bt_draw keeps to it, and the height of bt_draw_wide. */
 uint64_t bt_allowed_width(uint64_t nodes);
 
-/* The parts of what bt_draw answers. */
+/* The parts of what bt_draw and bt_draw_wide answer. */
 static inline unsigned bt_refusal(uint64_t drawn) { return drawn & 0xffff; }
 static inline unsigned bt_nodes(uint64_t drawn) { return drawn >> 16 & 0xffff; }
 static inline unsigned bt_width(uint64_t drawn) { return drawn >> 32 & 0xffff; }

@@ -1,8 +1,9 @@
-// Compares draw, check and the allowed width of the library with the reference on fresh random cases.
+// Compares the calls of the library with the reference on fresh random cases: ours (cases.rs), and the reference's own.
 //   compare SEED CASES FOLDER: a share of the calls goes to FOLDER/share for the Python reference, a difference to FOLDER.
 mod oracle;
 use oracle::ours;
-use oracle::reference::{reference_width, Cases, Reference};
+use oracle::reference::cases::Cases;
+use oracle::reference::{reference_width, Reference};
 use std::fs;
 use std::io::Write;
 
@@ -15,14 +16,35 @@ struct Run {
     calls: u64,
     shared: u64,
     differences: u64,
-    answers: [u64; 32],
+    answers: [[u64; 32]; 3],
 }
+
+/// The calls whose answers are counted.
+const CALLS: [&str; 3] = ["draw", "wide", "check"];
+const DRAW: usize = 0;
+const WIDE: usize = 1;
+const CHECK: usize = 2;
 
 fn bytes_of(places: &[u16]) -> Vec<u8> {
     places.iter().flat_map(|x| x.to_le_bytes()).collect()
 }
 
 impl Run {
+    /// A random case of the reference's own. For the other reference: the lengths, the case and our result (reference/cases.md).
+    fn any(&mut self, seed: u64) {
+        let a = self.reference.any(seed);
+        if self.sharing {
+            let mut v = vec![b'a'];
+            v.extend_from_slice(&(a.case.len() as u32).to_le_bytes());
+            v.extend_from_slice(&(a.ours.len() as u32).to_le_bytes());
+            v.extend_from_slice(&a.case);
+            v.extend_from_slice(&a.ours);
+            self.share.write_all(&v).unwrap();
+            self.shared += 1;
+        }
+        self.judge(a.ours == a.theirs, a.told, &a.table, &a.places);
+    }
+
     /// A call for the other reference: which, the lengths, the table, the placements before, our answer, the placements after.
     fn to_share(&mut self, which: u8, table: &[u8], before: &[u16], answer: u64, after: &[u16]) {
         if !self.sharing {
@@ -52,21 +74,33 @@ impl Run {
         println!("DIFFERENCE: {what}; saved as {stem}.*");
     }
 
-    fn draw(&mut self, table: &[u8], places: &mut Vec<u16>) {
-        let before = places.clone();
-        let mut theirs = places.clone();
-        let a = ours::draw(table, places);
-        let b = self.reference.draw(table, &mut theirs);
-        self.answers[(b & 31) as usize] += 1;
-        self.to_share(b'd', table, &before, a, places);
-        let told = format!("draw: ours {a:#x}, reference {b:#x}, placements {}", if *places == theirs { "equal" } else { "differ" });
+    /// Draws, plain or wide.
+    fn draw(&mut self, call: usize, table: &[u8], places: &mut [u16]) {
+        let before = places.to_vec();
+        let mut theirs = before.clone();
+        let (a, b) = if call == WIDE {
+            (ours::draw_wide(table, places), self.reference.draw_wide(table, &mut theirs))
+        } else {
+            (ours::draw(table, places), self.reference.draw(table, &mut theirs))
+        };
+        self.answers[call][(b & 31) as usize] += 1;
+        self.to_share(if call == WIDE { b'w' } else { b'd' }, table, &before, a, places);
+        let told = format!("{}: ours {a:#x}, reference {b:#x}, placements {}", CALLS[call], if *places == theirs { "equal" } else { "differ" });
         self.judge(a == b && *places == theirs, told, table, &before);
+    }
+
+    /// A wide drawing with columns and rows exchanged is good for the table with left and right exchanged.
+    fn turned(&mut self, table: &[u8], places: &[u16]) {
+        if let Some((table, places)) = self.reference.turned(table, places) {
+            let (a, b) = (ours::check(&table, &places), self.reference.check(&table, &places));
+            self.judge(a == 0 && b == 0, format!("check of a wide drawing, turned: ours {a}, reference {b}"), &table, &places);
+        }
     }
 
     fn check(&mut self, table: &[u8], places: &[u16]) {
         let a = ours::check(table, places);
         let b = self.reference.check(table, places);
-        self.answers[b as usize] += 1;
+        self.answers[CHECK][b as usize] += 1;
         self.to_share(b'c', table, places, a as u64, &[]);
         self.judge(a == b, format!("check: ours {a}, reference {b}"), table, places);
     }
@@ -86,13 +120,16 @@ fn main() {
     let share = fs::File::create(format!("{folder}/share")).unwrap();
     let mut run = Run {
         seed, folder, reference: Reference::new(), share,
-        sharing: false, calls: 0, shared: 0, differences: 0, answers: [0; 32],
+        sharing: false, calls: 0, shared: 0, differences: 0, answers: [[0; 32]; 3],
     };
     let mut cases = Cases::new(seed);
     for i in 0..count {
         run.sharing = i % 12 == 0;
         let mut case = cases.next();
-        run.draw(&case.table, &mut case.places);
+        let mut places = case.places.clone();
+        run.draw(WIDE, &case.table, &mut places);
+        run.turned(&case.table, &places);
+        run.draw(DRAW, &case.table, &mut case.places);
         run.check(&case.table, &case.places);
         run.check(&case.table, &case.points);
         let records = case.places.len() / 2;
@@ -103,13 +140,17 @@ fn main() {
             }
         }
         run.check(&case.table, &case.places);
+        run.any(cases.seed());
     }
     run.sharing = false;
     for n in (0..5000).chain((0..64).map(|k| 1 << k)).chain((0..64).map(|k| (1 << k) - 1)) {
         run.width(n);
     }
-    let told: Vec<String> = (0..32).filter(|&k| run.answers[k] > 0).map(|k| format!("{k}: {}", run.answers[k])).collect();
-    println!("{} calls beside racksheet.rs, {} differences; answers {}", run.calls, run.differences, told.join(", "));
+    println!("{} calls beside racksheet.rs, {} differences; answers", run.calls, run.differences);
+    for (call, answers) in CALLS.iter().zip(run.answers) {
+        let told: Vec<String> = (0..32).filter(|&k| answers[k] > 0).map(|k| format!("{k}: {}", answers[k])).collect();
+        println!("  {call} {}", told.join(", "));
+    }
     println!("{} of them go to racksheet.py", run.shared);
     std::process::exit((run.differences > 0) as i32);
 }

@@ -6,13 +6,15 @@ import struct
 import subprocess
 import sys
 
+here = os.path.dirname(os.path.abspath(__file__))
 sys.dont_write_bytecode = True
-sys.path.insert(0, os.path.join(os.path.dirname(os.path.abspath(__file__)), 'reference'))
+sys.path.insert(0, os.path.join(here, 'reference'))
 import racksheet
 
+UPTO = int(open(os.path.join(here, 'upto')).read())     # requests 1 to UPTO of document 02 are in force
 folder, plan = sys.argv[1:]
 data = open(os.path.join(folder, 'share'), 'rb').read()
-at = calls = runs = differences = 0
+at = calls = draws = runs = differences = 0
 
 
 def take(n):
@@ -35,7 +37,7 @@ def run(table):
     global runs
     runs += 1
     printed = subprocess.run([plan], input=table, stdout=subprocess.PIPE).stdout
-    wanted = racksheet.program(table)
+    wanted = racksheet.program(table, UPTO)
     if printed != wanted:
         save('program', table, [], 'ours %r, reference %r' % (printed, wanted))
 
@@ -43,19 +45,29 @@ def run(table):
 while at < len(data):
     which = take(1)
     size, numbers = struct.unpack('<II', take(8))
+    if which == b'a':
+        case, = racksheet.cases_in(take(size))
+        result, wanted = take(numbers), racksheet.answer(case, UPTO)
+        calls += 1
+        if result != wanted.to_bytes():
+            save(racksheet.OPS[case.op].replace(' ', '_'), case.table, case.a, 'ours %#x, reference %#x, scalars %s' %
+                 (int.from_bytes(result[:8], 'little'), wanted.answer, case.s))
+        continue
     table, before = take(size), list(struct.unpack('<%dH' % numbers, take(2 * numbers)))
     answer, = struct.unpack('<Q', take(8))
     calls += 1
-    if which == b'd':
+    if which in b'dw':
         after = list(struct.unpack('<%dH' % numbers, take(2 * numbers)))
-        refusal, n, width, height, placed = racksheet.draw(table, before)
+        draw = racksheet.draw if which == b'd' else racksheet.draw_wide
+        refusal, n, width, height, placed = draw(table, before, UPTO)
         wanted = refusal | n << 16 | width << 32 | height << 48
         if (answer, after) != (wanted, placed):
-            save('draw', table, before, 'ours %#x, reference %#x' % (answer, wanted))
-        if calls % 40 == 1:
+            save(draw.__name__, table, before, 'ours %#x, reference %#x' % (answer, wanted))
+        draws += which == b'd'
+        if which == b'd' and draws % 10 == 1:
             run(table)
     else:
-        wanted = racksheet.check(table, before)
+        wanted = racksheet.check(table, before, UPTO)
         if answer != wanted:
             save('check', table, before, 'ours %d, reference %d' % (answer, wanted))
 for size in (0, 1, 8, 32775, 32776, 32777, 32784, 65536, 100000, 1000000):

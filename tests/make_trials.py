@@ -1,7 +1,7 @@
 #!/usr/bin/env python3
 """Makes crates/trials/stdin and crates/trials/stdout anew, always the same, from a fixed seed.
 
-The cases are sheets of document 01, every refusal and every verdict in several ways, and random trees.
+The cases are sheets of document 01, every refusal and every verdict in several ways, and random trees; each table that is drawn is drawn wide as well.
 What must be printed comes from the reference program alone (reference/racksheet.py), never from our code.
 The form of the cases is told at the head of crates/trials/src/main.rt.
 """
@@ -15,10 +15,21 @@ sys.dont_write_bytecode = True
 import racksheet
 import slips
 import trees
+from slips import UPTO
 from trees import packed
 
 SEED = 20240501
 ALL_UP_TO = 600                     # placements that are printed one by one
+SEQUENCE = 1, 7                     # placements before a drawing: the first and the step
+
+
+def seeded(part):
+    """Random numbers of a part's own: cases added to one part leave the others as they are."""
+    return random.Random('%d %s' % (SEED, part))
+
+
+def sequence(count, first, step):
+    return [(first + step * i) % 65536 for i in range(count)]
 
 
 class Trials:
@@ -40,7 +51,7 @@ class Trials:
         self.case(2, len(places), more=packed([places]))
 
     def filled(self, count, first=0, step=0):
-        self.places = [(first + step * i) % 65536 for i in range(count)]
+        self.places = sequence(count, first, step)
         self.case(3, count, first, step)
 
     def changed(self, pairs):
@@ -48,10 +59,7 @@ class Trials:
             self.places[at] = number
         self.case(4, len(pairs), more=packed(pairs))
 
-    def draw(self):
-        self.case(5)
-        refusal, n, width, height, self.places = racksheet.draw(self.bytes, self.places)
-        self.lines.append('draw %d %d %d %d' % (refusal, n, width, height))
+    def placed(self):
         if len(self.places) <= ALL_UP_TO:
             self.lines.append(' '.join(['places'] + [str(x) for x in self.places]))
         else:
@@ -60,18 +68,33 @@ class Trials:
                 s = (65599 * s + x + 1) % 4294967291
             self.lines.append('sum %d' % s)
 
+    def draw(self):
+        self.case(5)
+        refusal, n, width, height, self.places = racksheet.draw(self.bytes, self.places, UPTO)
+        self.lines.append('draw %d %d %d %d' % (refusal, n, width, height))
+        self.placed()
+
     def check(self):
         self.case(6)
-        self.lines.append('check %d' % racksheet.check(self.bytes, self.places))
+        self.lines.append('check %d' % racksheet.check(self.bytes, self.places, UPTO))
 
     def width(self, n):
         self.case(7, n % 65536, n // 65536 % 65536, n // 2 ** 32)
         self.lines.append('width %d' % racksheet.allowed_width(n))
 
-    def both(self, data, first=0, step=0, short=0, extra=0):
-        """Draws and checks a table on placements that tell which were kept."""
+    def wide(self):
+        self.case(8)
+        refusal, n, width, height, self.places = racksheet.draw_wide(self.bytes, self.places, UPTO)
+        self.lines.append('wide refused %d' % refusal if refusal else 'wide %d %d %d' % (n, width, height))
+        self.placed()
+
+    def every(self, data, first=0, step=0, short=0, extra=0):
+        """Draws a table wide, then draws it and checks the drawing, on placements that tell which were kept."""
+        count = max(0, 2 * (len(data) // 8) - short) + extra
         self.table(data)
-        self.filled(max(0, 2 * (len(data) // 8) - short) + extra, first, step)
+        self.filled(count, first, step)
+        self.wide()
+        self.filled(count, first, step)
         self.draw()
         self.check()
 
@@ -102,13 +125,21 @@ def worked(t):
         ([(2, 3), (0, 0), (4, 5), (0, 0), (6, 0), (0, 0)], 1, [(0, 0), (1, 3), (1, 1), (1, 2), (3, 2), (2, 4)]),
         ([(0, 2), (3, 6), (0, 4), (0, 5), (0, 0), (7, 10), (8, 9), (0, 0), (0, 0), (0, 0)], 1, []),
     ]
+    sizes = {0: (0, 0), 1: (1, 1), 3: (2, 3), 6: (4, 5)}
     for links, root, points in drawn:
-        t.both(packed(plain(links, root)), 60000, 7, extra=3)
+        t.every(packed(plain(links, root)), 60000, 7, extra=3)
         assert t.places[2:2 + 2 * len(points)] == [x for point in points for x in point]
-        if len(links) in (0, 1, 3, 6):
-            says('draw 0 %s' % {0: '0 0 0', 1: '1 1 1', 3: '3 2 3', 6: '6 4 5'}[len(links)], back=3)
+        if len(links) in sizes:
+            says('draw 0 %d %d %d' % (len(links), *sizes[len(links)]), back=3)
+        # its mirror image drawn wide: the same sheet with columns and rows exchanged
+        t.table(packed(plain([(b, a) for a, b in links], root)))
+        t.filled(2 * len(links) + 5, 60000, 7)
+        t.wide()
+        assert t.places[2:2 + 2 * len(points)] == [x for column, row in points for x in (row, column)]
+        if len(links) in sizes:
+            says('wide %d %d %d' % (len(links), *sizes[len(links)][::-1]), back=2)
     # y and z (6 and 7) below 5, which hangs from a right knee
-    t.both(packed(plain([(0, 2), (3, 4), (0, 0), (5, 8), (6, 7), (0, 0), (0, 0), (9, 0), (10, 0), (11, 0), (0, 0)])), 60000, 7)
+    t.every(packed(plain([(0, 2), (3, 4), (0, 0), (5, 8), (6, 7), (0, 0), (0, 0), (9, 0), (10, 0), (11, 0), (0, 0)])), 60000, 7)
     x, y = t.places[10:12]
     assert t.places[12:16] == [x - 1, y + 1, x - 1, y + 2]
     for links, places, verdict in (
@@ -128,7 +159,7 @@ def worked(t):
             (full, 0, 0), (full + [[0, 0, 0, 0]], 0, 1),                    # 32,776 bytes may be accepted, 32,784 gives 1
             ([[0, 1, 0, 0]], 0, 5), (plain([(2, 2), (0, 0)]), 0, 5),        # head alone with root 1; left and right naming one
             (plain([(2, 3), (0, 0), (0, 0)]), 1, 6)):                       # placements one number short
-        t.both(packed(words), 9, 11, short=short)
+        t.every(packed(words), 9, 11, short=short)
         says('check %d' % answer)
 
 
@@ -144,10 +175,10 @@ def refusals(t):
 
     data = packed(good)
     for length in (0, 1, 7, 9, 15, 17, 55):                                 # 1
-        t.both(data[:length], 9, 1)
+        t.every(data[:length], 9, 1)
     for length in (32775, 32777, 40000, 65535):
-        t.both((data + bytes(65536))[:length], 9, 1)
-    t.both(data[:8], 9, 1)                                                  # the head alone, its chain cut off
+        t.every((data + bytes(65536))[:length], 9, 1)
+    t.every(data[:8], 9, 1)                                                  # the head alone, its chain cut off
     head = [[(0, 2, 1)], [(0, 3, 1)], [(0, 2, 65535), (0, 3, 256)], [(0, 2, 256), (0, 0, 99)]]  # 2
     chain = [[(0, 0, 7)], [(0, 0, 65535)], [(6, 0, 1)], [(6, 0, 6)], [(6, 0, 3)], [(6, 0, 7)], [(1, 0, 1)],
              [(3, 0, 2)], [(6, 0, 256)], [(6, 0, 7), (2, 1, 50)]]           # 3
@@ -156,20 +187,20 @@ def refusals(t):
             [(6, 2, 1)], [(2, 1, 4)], [(2, 1, 2)], [(6, 1, 6)], [(1, 1, 0)], [(1, 2, 2)], [(1, 2, 0), (6, 1, 3)],
             [(5, 1, 5)], [(1, 2, 0)], [(1, 2, 0), (4, 2, 3)], [(0, 0, 0), (0, 1, 6)]]                           # 5
     for edits in head + chain + links + tree:
-        t.both(edited(*edits), 1000, 3)
-        t.both(edited(*edits), 1000, 3, short=2)
+        t.every(edited(*edits), 1000, 3)
+        t.every(edited(*edits), 1000, 3, short=2)
     two = plain([(0, 0), (3, 0), (2, 0)])                                   # a cycle off the root
-    t.both(packed(two), 1, 1)
+    t.every(packed(two), 1, 1)
     long = plain([(0, 0)] * 4096)                                           # a long chain that runs into itself
     for last in (1, 4096, 4097):
         long[4096][0] = last
-        t.both(packed(long), 1, 1)
+        t.every(packed(long), 1, 1)
     lone = [[0, 0, 0, 0]] + [[k * 7 % 9, 65535, 3, 1] for k in range(5)]    # nothing chained, rubbish behind
-    t.both(packed(lone), 1, 1)
+    t.every(packed(lone), 1, 1)
     for short in (0, 1, 2, 12):                                             # 6
-        t.both(packed(good + [[9, 9, 9, 9]]), 1, 1, short=short)
-        t.both(packed([[0, 0, 0, 0]]), 1, 1, short=short)
-    t.both(data, 1, 1, extra=5)
+        t.every(packed(good + [[9, 9, 9, 9]]), 1, 1, short=short)
+        t.every(packed([[0, 0, 0, 0]]), 1, 1, short=short)
+    t.every(data, 1, 1, extra=5)
 
 
 def damaged(t, rng):
@@ -180,7 +211,7 @@ def damaged(t, rng):
         words = [int.from_bytes(data[i:i + 2], 'little') for i in range(0, len(data), 2)]
         for _ in range(rng.randint(1, 2)):
             words[rng.randrange(len(words))] = rng.choice((0, rng.randrange(len(data) // 8 + 1), rng.randrange(65536)))
-        t.both(packed([words]), rng.randrange(65536), rng.randrange(5), short=rng.choice((0, 0, 0, 0, 1)))
+        t.every(packed([words]), rng.randrange(65536), rng.randrange(5), short=rng.choice((0, 0, 0, 0, 1)))
 
 
 def verdicts(t, rng):
@@ -269,10 +300,10 @@ def check_case(rng, low=2, high=16):
 
 
 def draw_case(rng, low=14, high=40):
-    """A table and placements for a draw."""
+    """A table and placements for a draw, wide or not."""
     tree = rng.choice(trees.shapes(rng)[5:])[1](rng.randint(low, high))
     data, _ = trees.table(tree, rng, extra=rng.randint(0, 2))
-    return data, [0] * (2 * (len(data) // 8))
+    return data, sequence(2 * (len(data) // 8), *SEQUENCE)
 
 
 def random_checks(t, rng):
@@ -297,24 +328,46 @@ def level_checks(t, rng):
                 points = moved(tree, points, rng)
 
 
-def telling(t, rng):
+def telling(t):
     """For each slip of a drawing or a check, a dozen cases that tell it."""
     for kind, name, *changes in slips.SLIPS:
         if kind == 'table':
             continue
-        make, ask = (draw_case, 'draw') if kind == 'draw' else (check_case, 'check')
+        rng = seeded(kind + ': ' + name)
+        ask, = slips.CALLS[kind]
         wrong, told = slips.reference(changes), 0
         for _ in range(20000):
-            data, places = make(rng)
+            data, places = check_case(rng) if kind == 'check' else draw_case(rng)
             if slips.answer(wrong, ask, data, places) != slips.answer(racksheet, ask, data, places):
                 told += 1
                 t.table(data)
-                t.numbers(places)
+                if kind == 'check':
+                    t.numbers(places)
+                else:
+                    t.filled(len(places), *SEQUENCE)
+                {'draw': t.draw, 'check': t.check, 'wide': t.wide}[kind]()
                 if kind == 'draw':
-                    t.draw()
-                t.check()
+                    t.check()
             if told == 12:
                 break
+
+
+def turned(t, rng):
+    """Wide drawings with columns and rows exchanged, checked against the table with left and right exchanged: all good."""
+    for name, make in trees.shapes(rng):
+        for n in (rng.randint(2, 13), rng.randint(14, 60)):
+            tree = make(n)
+            data, record = trees.table(tree, rng, extra=rng.randint(0, 2))
+            t.table(data)
+            t.filled(2 * (len(data) // 8), *SEQUENCE)
+            t.wide()
+            places = list(t.places)
+            for k in record[1:]:
+                places[2 * k], places[2 * k + 1] = places[2 * k + 1], places[2 * k]
+            t.table(racksheet.exchange(data, UPTO)[1])
+            t.numbers(places)
+            t.check()
+            assert t.lines[-1] == 'check 0'
 
 
 def random_trees(t, rng):
@@ -327,7 +380,7 @@ def random_trees(t, rng):
         for n in sizes + large + largest:
             tree = make(n)
             data, record = trees.table(tree, rng, extra=min(rng.randint(0, 3), 4096 - n))
-            t.both(data, rng.randrange(65536), rng.randrange(65536), extra=rng.randint(0, 3))
+            t.every(data, rng.randrange(65536), rng.randrange(65536), extra=rng.randint(0, 3))
             for _ in range(2 if n < 4096 else 1):
                 v, u = rng.randint(1, n), rng.randint(1, n)
                 k, j = 2 * record[v], 2 * record[u]
@@ -340,27 +393,26 @@ def random_trees(t, rng):
 
 
 def main():
-    rng = random.Random(SEED)
     t = Trials()
     worked(t)
     refusals(t)
-    damaged(t, rng)
-    verdicts(t, rng)
-    random_checks(t, rng)
-    telling(t, rng)
-    random_trees(t, rng)
-    level_checks(t, rng)
+    damaged(t, seeded('damaged'))
+    verdicts(t, seeded('verdicts'))
+    random_checks(t, seeded('checks'))
+    telling(t)
+    random_trees(t, seeded('trees'))
+    level_checks(t, seeded('level'))
+    turned(t, seeded('turned'))
     crate = os.path.join(os.path.dirname(here), 'crates', 'trials')
     with open(os.path.join(crate, 'stdin'), 'wb') as f:
         f.write(b''.join(t.cases))
     with open(os.path.join(crate, 'stdout'), 'w', encoding='ascii', newline='\n') as f:
         f.write('\n'.join(t.lines) + '\n')
-    for name in ('draw', 'check', 'width'):
-        asked = [line.split()[1] for line in t.lines if line.startswith(name + ' ')]
-        if name == 'width':
-            print(name, len(asked))
-        else:
-            print(name, len(asked), *('%s:%d' % (a, asked.count(a)) for a in sorted(set(asked), key=int)))
+    for name in ('draw', 'check', 'wide'):
+        asked = [line.split() for line in t.lines if line.startswith(name + ' ')]
+        asked = [words[2] if words[1] == 'refused' else '0' if name == 'wide' else words[1] for words in asked]
+        print(name, len(asked), *('%s:%d' % (a, asked.count(a)) for a in sorted(set(asked), key=int)))
+    print('width', sum(line.startswith('width ') for line in t.lines))
 
 
 if __name__ == '__main__':

@@ -11,11 +11,12 @@ use Rattle.table.specs.Tree.{nodes, tree}
 use Rattle.table.specs.Refusal.{fault, refusal}
 use Rattle.table.proofs.Lists.{member-count}
 use Rattle.table.proofs.Accepted.{refusal-none, chain-within, nodes-chain}
+use Rattle.layout.specs.Layout.{Layout}
 use Rattle.layout.specs.Drawing.{draw}
 use Rattle.layout.proofs.Theorem.{promise}
-use Rattle.drawing.specs.Answer.{placedIn}
+use Rattle.drawing.specs.Answer.{store, placedIn}
 use Rattle.drawing.proofs.Answered.{accepted, refused}
-use Rattle.drawing.proofs.StoredPoints.{Outside, store-length, store-kept}
+use Rattle.drawing.proofs.StoredPoints.{times, store-length, store-kept}
 
 -- No entry is added or lost.
 pub as-many : (t p : List ℕ) → length (placedIn t p) ≡ length p
@@ -25,19 +26,20 @@ as-many t p = go (ℕ-discrete (refusal t (length p)) 0)
     go (yes e) = ap length (accepted t p e .after) ∙ store-length (draw (tree t)) p
     go (no e) = ap length (refused t p e .after)
 
+-- A layout of chained records is stored in their entries alone. Entry i is one of record i / 2.
+pub stored-elsewhere : (t p : List ℕ) (L : Layout) (i : ℕ) → ((k : ℕ) → 1 ≤ times k L → Chained t k) → (Chained t (i / 2) → ⊥) → getD (store L p) i 0 ≡ getD p i 0
+stored-elsewhere t p L i chained off = store-kept L p i (λ k h. let other : i / 2 ≡ k → ⊥ = λ d. off (rw d (chained k h)) in (λ d. other (omega arith), λ d. other (omega arith)))
+
 module _ (t p : List ℕ) (i : ℕ) where
-  -- Entry i is one of record i / 2. It is kept unless the table is accepted and that record is chained.
+  -- It is kept unless the table is accepted and that record is chained.
   kept : (fault t ≡ 0 → Chained t (i / 2) → ⊥) → getD (placedIn t p) i 0 ≡ getD p i 0
   kept off = go (ℕ-discrete (refusal t (length p)) 0)
     where
-      outside : fault t ≡ 0 → Outside i (draw (tree t))
-      outside ok k h =
-          let c : Chained t k = nodes-chain t ok k .0 (member-count k (nodes (tree t)) .1 (rw (promise (tree t) .same) at h)) in
-          let other : i / 2 ≡ k → ⊥ = λ d. off ok (rw d c) in
-          (λ d. other (omega arith), λ d. other (omega arith))
+      chained : fault t ≡ 0 → (k : ℕ) → 1 ≤ times k (draw (tree t)) → Chained t k
+      chained ok k h = nodes-chain t ok k .0 (member-count k (nodes (tree t)) .1 (rw (promise (tree t) .same) at h))
 
       go : Dec (refusal t (length p) ≡ 0) → getD (placedIn t p) i 0 ≡ getD p i 0
-      go (yes e) = rw (accepted t p e .after) (store-kept (draw (tree t)) p i (outside (refusal-none t (length p) .0 e .0)))
+      go (yes e) = let ok = refusal-none t (length p) .0 e .0 in rw (accepted t p e .after) (stored-elsewhere t p (draw (tree t)) i (chained ok) (off ok))
       go (no e) = rw (refused t p e .after)
 
   pub kept-elsewhere : (Chained t (i / 2) → ⊥) → getD (placedIn t p) i 0 ≡ getD p i 0

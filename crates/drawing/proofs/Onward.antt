@@ -13,6 +13,7 @@ use Rattle.table.specs.Tree.{Tree, none, node}
 use Rattle.layout.specs.Layout.{Layout}
 use Rattle.layout.specs.Spine.{SpineNode, hangs, Role, knee, ordinary, switch, opposite, seen, runRole, roleAfter, handAfter}
 use Rattle.layout.specs.Drawing.{Rest, join}
+use Rattle.layout.specs.inner.Entries.{withPoint}
 use Rattle.layout.specs.inner.Held.{inwards, hungOn, heightOn, widthOn, roleNext, far, lay, bottom, Inside, Rooms, knee-room, ordinary-room, switch-room}
 use Rattle.layout.proofs.Spines.{spineTree}
 use Rattle.layout.proofs.Sides.{shape-hung, hung-none, height-none, width-none}
@@ -20,7 +21,7 @@ use Rattle.layout.proofs.Held.{inside-less}
 use Rattle.measure.specs.inner.Prepared.{codeOf, Prepared, Along, no-spine, onward}
 use Rattle.drawing.specs.Answer.{store}
 use Rattle.measure.specs.inner.Roles.{isSwitch}
-use Rattle.drawing.specs.inner.Placing.{withPoint, kept, finish, finished, Ready}
+use Rattle.drawing.specs.inner.Placing.{kept, finish, finished, Ready}
 use Rattle.drawing.proofs.StoredOrder.{DisjointLayouts, store-comm, store-join}
 use Rattle.drawing.proofs.Shapes.{Disjoint, shape-lay}
 use Rattle.drawing.proofs.Columns.{over-edge, over-back}

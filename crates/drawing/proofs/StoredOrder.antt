@@ -12,8 +12,9 @@ use Rattle.table.specs.Table.{Side, left, right}
 use Rattle.table.proofs.Lists.{same-one}
 use Rattle.layout.specs.Layout.{Layout, blank, placed}
 use Rattle.layout.specs.Drawing.{join}
+use Rattle.layout.proofs.Entries.{pair}
 use Rattle.drawing.specs.Answer.{store}
-use Rattle.drawing.proofs.StoredPoints.{times, pair, times-placed}
+use Rattle.drawing.proofs.StoredPoints.{times, times-placed}
 
 -- Points of different records are stored in any order.
 pair-comm : (i j : ℕ) (P Q : Point) (p : List ℕ) → i ≢ j → pair (pair p j Q) i P ≡ pair (pair p i P) j Q

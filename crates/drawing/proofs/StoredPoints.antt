@@ -1,12 +1,12 @@
 -- Laws of `store`: the length is kept (`store-length`), every entry but those of the layout's records is kept (`store-kept`), and the entries of a node of a
--- layout with distinct records are its point (`store-point`).
+-- layout with distinct records are its point (`store-point`). Rests on the laws of entries (`layout`, proofs/Entries).
 use mathlib.Core.Path.{_≡_, refl, ap, ap₂, _∙_}
 use mathlib.Core.Logic.{_≢_}
 use mathlib.Core.List.{List}
 use Prim.Native.Nat.{ℕ, _+_, _*_, _≤_, _<_}
 use native.Mathlib.Omega.{arith}
 use lib.ListN.{length, getD, set, length-set}
-use lib.Seq.{getD-set-same, getD-set-other}
+use lib.Seq.{getD-set-other}
 use Rattle.segment.specs.declared.Point.{Point}
 use Rattle.segment.specs.Segment.{at}
 use Rattle.table.specs.Lists.{count}
@@ -17,20 +17,13 @@ use Rattle.table.proofs.Chain.{count-node}
 use Rattle.layout.specs.Layout.{Layout, blank, placed}
 use Rattle.layout.proofs.Clean.{Node, root, below, point, recordOf}
 use Rattle.layout.proofs.Rows.{shape}
+use Rattle.layout.specs.inner.Entries.{pointAt}
+use Rattle.layout.proofs.Entries.{pair, pair-point}
 use Rattle.drawing.specs.Answer.{store}
-use Rattle.drawing.specs.inner.Placing.{withPoint}
 
 -- How often a layout has the record k.
 abbrev pub times : ℕ → Layout → ℕ
 times k L = count k (nodes (shape L))
-
--- The point at a record's entries.
-abbrev pub pointAt : List ℕ → ℕ → Point
-pointAt p k = at (getD p (2 * k) 0) (getD p (2 * k + 1) 0)
-
--- A point stored at a record's entries.
-abbrev pub pair : List ℕ → ℕ → Point → List ℕ
-pair p k P = withPoint k (P .column) (P .row) p
 
 pub store-length : (L : Layout) (p : List ℕ) → length (store L p) ≡ length p
 unfolding store
@@ -62,17 +55,11 @@ store-kept (placed k P a b) p i out =
     here = out k (omega (arith, times-placed k k P a b, same-one k k refl))
 
 -- The entries of a record that the layout does not have.
-kept-point : (L : Layout) (p : List ℕ) (j : ℕ) → times j L ≡ 0 → pointAt (store L p) j ≡ pointAt p j
+pub kept-point : (L : Layout) (p : List ℕ) (j : ℕ) → times j L ≡ 0 → pointAt (store L p) j ≡ pointAt p j
 kept-point L p j none = ap₂ at (store-kept L p (2 * j) (λ k h. (λ e. other k h (omega arith), λ e. omega arith))) (store-kept L p (2 * j + 1) (λ k h. (λ e. omega arith, λ e. other k h (omega arith))))
   where
     other : (k : ℕ) → 1 ≤ times k L → j ≡ k → ⊥
     other k h e = omega (arith, ap (λ (n : ℕ). times n L) e)
-
--- What is stored at one record.
-pair-point : (p : List ℕ) (k : ℕ) (P : Point) → 2 * k + 1 < length p → pointAt (pair p k P) k ≡ P
-pair-point p k P room = ap₂ at
-    (getD-set-other (set p (2 * k) (P .column)) (2 * k + 1) (2 * k) (P .row) 0 (λ e. omega arith) ∙ getD-set-same p (2 * k) (P .column) 0 (omega arith))
-    (getD-set-same (set p (2 * k) (P .column)) (2 * k + 1) (P .row) 0 (simp length-set room))
 
 pub store-point : (L : Layout) (p : List ℕ) → ((k : ℕ) → times k L ≤ 1) → ((k : ℕ) → 1 ≤ times k L → 2 * k + 1 < length p) → (n : Node L) → pointAt (store L p) (recordOf n) ≡ point n
 unfolding store

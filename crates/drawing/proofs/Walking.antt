@@ -13,6 +13,7 @@ use Rattle.table.proofs.Lists.{same}
 use Rattle.table.proofs.Chain.{count-node}
 use Rattle.table.proofs.Accepted.{tree-none, records-bounds, chain-within}
 use Rattle.layout.specs.Spine.{SpineNode, hangs, Role, knee, ordinary, switch, opposite}
+use Rattle.layout.specs.inner.Entries.{withPoint}
 use Rattle.layout.specs.inner.Held.{inwards, hungOn, heightOn, spineOn, roleNext, far, bottom, Inside}
 use Rattle.layout.proofs.Spines.{over, spineTree, tree-spine}
 use Rattle.layout.proofs.Held.{inside-less}
@@ -24,7 +25,7 @@ use Rattle.measure.specs.inner.Roles.{handOf as sideOfCoded, roleOf, isSwitch}
 use Rattle.measure.proofs.Choices.{code-same, code-small}
 use Rattle.drawing.specs.Answer.{store}
 use Rattle.drawing.specs.declared.place.Walk.{Walk}
-use Rattle.drawing.specs.inner.Placing.{isKnee, withPoint, Given, Hanging, Hung, finished, Ready, walkTo, handAt, Going, Stepped}
+use Rattle.drawing.specs.inner.Placing.{isKnee, Given, Hanging, Hung, finished, Ready, walkTo, handAt, Going, Stepped}
 use Rattle.drawing.proofs.Shapes.{Disjoint}
 use Rattle.drawing.proofs.Columns.{inside-edge, inside-count, side-not}
 use Rattle.drawing.proofs.Onward.{knee-far, knee-near, ordinary-on, switch-over, bottom-far, bottom-near, bottom-over, along-role, along-hung, at-knee-room, at-ordinary-room, at-switch-width, at-switch-room, ready-far, ready-near, ready-ordinary, ready-switch, rows-far, rows-knee, rows-ordinary, rows-switch}

@@ -74,7 +74,7 @@ pub some-root : (t : List ℕ) → fault t ≡ 0 → (n : ℕ) → n ≡ length 
 some-root t ok n e h = ⊎-elim (λ z. absurd (h (e ∙ ap length (z .0)))) (λ c. c) (root t ok)
 
 -- No nodes: the empty tree.
-no-tree : (t : List ℕ) → fault t ≡ 0 → length (chain t) ≡ 0 → tree t ≡ none
+pub no-tree : (t : List ℕ) → fault t ≡ 0 → length (chain t) ≡ 0 → tree t ≡ none
 no-tree t ok e = ap (treeAt t) (⊎-elim (λ z. z .1) (λ c. absurd (omega (arith, length-within (rootOf t ∷ []) (chain t) (within-one (rootOf t) (chain t) c)))) (root t ok)) ∙ tree-none t
 
 pub nothing-drawn : (t p : List ℕ) → refusal t (length p) ≡ 0 → fault t ≡ 0 → length (chain t) ≡ 0 →

@@ -23,7 +23,7 @@ pub struct Plan {
 }
 
 impl Plan {
-    // What every refusal returns.
+    // What every refusal of the drawer returns.
     pub const EMPTY: Plan = Plan {
         nodes: 0,
         width: 0,
@@ -38,7 +38,7 @@ pub struct Drawn {
 }
 
 // The plan of an accepted table that has nodes. A list is lent for the roles.
-fn plan_of(
+pub fn plan_of(
     table: &[u8],
     sizes: &[u16],
     roles: &mut [u16],

@@ -11,10 +11,11 @@ ghost use Prim.Native.Nat.{_+_, _*_, _<_};
 ghost use lib.ListN.{length};
 ghost use Rattle.table.specs.Table.{left, right};
 ghost use Rattle.layout.specs.Spine.{Role as LayoutRole, knee, ordinary, switch};
+ghost use Rattle.layout.specs.inner.Entries.{withPoint};
 ghost use Rattle.layout.specs.inner.Held.{inwards as inwardsOf, far, Inside};
 ghost use Rattle.measure.specs.inner.Forked.{sideOf, Forked};
 ghost use Rattle.measure.specs.inner.Roles.{roleOf};
-ghost use Rattle.drawing.specs.inner.Placing.{isKnee, withPoint, handAt, walkTo, Given, Hanging, Hung, Going, Stepped};
+ghost use Rattle.drawing.specs.inner.Placing.{isKnee, handAt, walkTo, Given, Hanging, Hung, Going, Stepped};
 
 // A walk along the spine of a drawing: the next node and its row, the lowest row used so far, the pending child, 0 for none; the hand that the node
 // is on, and its edge; W of the spine, and whether its drawing is on the right side.

@@ -1,2 +1,3 @@
--- Demand 3: what the drawer accepts is good.
+-- Demand 3: what the drawer accepts is good (Demand). Corollary 1 of document 004: what an accepted wide plan keeps (Corollary1).
 pub mod Demand
+pub mod Corollary1

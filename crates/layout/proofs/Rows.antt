@@ -1,10 +1,13 @@
 -- What a layout keeps under the motions: its tree (`shape`), how many nodes it has (`count`), and which rows hold one (`HoldsRow`).
 use mathlib.Core.Path.{_≡_, refl, ap, ap₂, _∙_}
+use mathlib.Core.Bool.{or-comm}
 use Prim.Native.Nat.{ℕ, _+_}
 use native.Mathlib.Omega.{arith}
 use Rattle.segment.specs.declared.Point.{Point}
+use Rattle.table.specs.Lists.{member}
 use Rattle.table.specs.Table.{Side, left, right}
-use Rattle.table.specs.Tree.{Tree, none, node, size}
+use Rattle.table.specs.Tree.{Tree, none, node, size, nodes}
+use Rattle.table.proofs.Lists.{member-append}
 use Rattle.layout.specs.Layout.{Layout, blank, placed, shift, flip, mirror}
 use Rattle.layout.specs.inner.Held.{facing}
 use Rattle.layout.proofs.Clean.{onSide, Node, root, below, point}
@@ -30,6 +33,11 @@ pub size-mirror : (t : Tree) → size (mirror t) ≡ size t
 unfolding mirror size
 size-mirror none = refl
 size-mirror (node k a b) = omega (arith, size-mirror a, size-mirror b)
+
+pub member-mirror : (k : ℕ) (t : Tree) → member k (nodes (mirror t)) ≡ member k (nodes t)
+unfolding mirror nodes member
+member-mirror k none = refl
+member-mirror k (node n a b) = rw (member-append, member-append, member-mirror k a, member-mirror k b, or-comm (member k (nodes b)) (member k (nodes a)))
 
 pub size-facing : (s : Side) (t : Tree) → size (facing s t) ≡ size t
 unfolding facing

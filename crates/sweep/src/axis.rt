@@ -4,7 +4,7 @@ use crate::line::end;
 use crate::line::number;
 use crate::line::pack;
 use crate::line::start;
-use crate::line::wide;
+use crate::line::widened;
 use segment::Point;
 use segment::least;
 use segment::most;
@@ -77,7 +77,7 @@ fn reach_more(r: Reach, a: u16, b: u16) -> Reach
     Reach {
         low: least(r.low, low),
         high: most(r.high, high),
-        sum: r.sum + wide(high) - wide(low),
+        sum: r.sum + widened(high) - widened(low),
     }
 }
 
@@ -109,7 +109,7 @@ fn abreast(r: Reach) -> u64
     if r.high < r.low {
         return 0;
     }
-    r.sum / (wide(r.high) - wide(r.low) + 1)
+    r.sum / (widened(r.high) - widened(r.low) + 1)
 }
 
 // Do many lines, more than seven, lie abreast by rows, and fewer by columns? Either answer is right: it decides only the time.

@@ -9,7 +9,7 @@ ghost use Rattle.sweep.specs.inner.Line.{startOf, endOf};
 pub const HALF: u64 = 0x1_0000_0000;
 
 // A number of 16 bits, as one of 64.
-pub fn wide(n: u16) -> u64
+pub fn widened(n: u16) -> u64
     ensures { λ r. ⌜ (r ≡ n) × (r < 65536) ⌝ }
 {
     n as u64
@@ -19,7 +19,7 @@ pub fn wide(n: u16) -> u64
 pub fn number(p: Point) -> u64
     ensures { λ r. ⌜ (r ≡ numberOf 65536 p) × (p .row < 65536) × (p .column < 65536) ⌝ }
 {
-    65536 * wide(p.row) + wide(p.column)
+    65536 * widened(p.row) + widened(p.column)
 }
 
 // The line from p to q, as a number.

@@ -68,8 +68,8 @@ module _ (t : List ℕ) (ok : fault t ≡ 0) where
       let d = no-cause (badLinks t) 3 _ (c .1) in
       (a .0, b .0, c .0, d .0, no-cause (badTree t) 4 0 (d .1) .0)
 
-  -- The chain: within the table, no record twice, shorter than the table, ended by a zero.
-  pub records-bounds : (1 ≤ records t) × (records t ≤ 4097)
+  -- The records, and the chain: within the table, no record twice, shorter than the table, ended by a zero.
+  pub records-bounds : (1 ≤ records t) × (records t ≤ 4097) × (length t ≡ 8 * records t)
   records-bounds = length-bounds t (fault-none .0)
 
   pub chain-within : (k : ℕ) → Chained t k → (1 ≤ k) × (k < records t)

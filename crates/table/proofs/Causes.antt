@@ -1,9 +1,9 @@
--- What a table is like without one of the causes of refusal, or some. Rests on Lists and Chain.
-use mathlib.Core.Path.{_≡_}
+-- What a table is like without one of the causes of refusal, or some; that a later cause is asked only without the earlier ones (`cond-same`). Rests on Lists and Chain.
+use mathlib.Core.Path.{_≡_, refl}
 use mathlib.Core.Logic.{_⊎_, inl, inr, ⊎-elim, ⊎-map}
-use mathlib.Core.Bool.{Bool, true, false, not, _&&_, _||_}
+use mathlib.Core.Bool.{Bool, true, false, not, cond, _&&_, _||_}
 use mathlib.Core.List.{List}
-use Prim.Native.Nat.{ℕ, zero, suc, _+_, _%_, _≤_, _<_}
+use Prim.Native.Nat.{ℕ, zero, suc, _+_, _*_, _%_, _≤_, _<_}
 use native.Mathlib.Omega.{arith}
 use lib.Dec.{T, eqb, ltb, eqb→eq}
 use lib.ListN.{length}
@@ -20,14 +20,28 @@ pub unless : (a b : Bool) → not a && b ≡ false → T a ⊎ (b ≡ false)
 unless true b e = inl tt
 unless false b e = inr e
 
+-- A later cause is asked only without the one before.
+pub cond-same : {x y : ℕ} (b : Bool) (n : ℕ) → (b ≡ false → x ≡ y) → cond b n x ≡ cond b n y
+cond-same true n e = refl
+cond-same false n e = e refl
+
 module _ (t : List ℕ) where
-  -- Without 1: there is a head, and there are at most 4,097 records.
-  pub length-bounds : badLength t ≡ false → (1 ≤ records t) × (records t ≤ 4097)
+  -- Of any table: the head is not on the chain.
+  pub chain-positive : (k : ℕ) → Chained t k → 1 ≤ k
+  unfolding chain
+  chain-positive k h =
+      let z : k ≡ 0 → ⊥ = λ d. omega (arith, follow-zero (records t) t (nextOf t 0), member-count 0 (chain t) .0 (rw d at h)) in
+      omega arith
+
+  -- Without 1: there is a head, there are at most 4,097 records, and each has all its bytes.
+  pub length-bounds : badLength t ≡ false → (1 ≤ records t) × (records t ≤ 4097) × (length t ≡ 8 * records t)
   unfolding badLength
   length-bounds e =
       let a = or-false (eqb (length t) 0) (not (eqb (length t % 8) 0) || ltb 32776 (length t)) .0 e in
       let b = or-false (not (eqb (length t % 8) 0)) (ltb 32776 (length t)) .0 (a .1) in
-      omega (arith, eqb-false (length t) 0 (a .0), eqb→eq (length t % 8) 0 (passes (eqb (length t % 8) 0) (b .0)), ltb-false 32776 (length t) (b .1))
+      let w = eqb→eq (length t % 8) 0 (passes (eqb (length t % 8) 0) (b .0)) in
+      let m = ltb-false 32776 (length t) (b .1) in
+      (omega (arith, eqb-false (length t) 0 (a .0), w), omega (arith, w, m), omega (arith, w))
 
   -- Without 3: the chain is within the table, and no record is on it twice.
   pub sound-distinct : badChain t ≡ false → Distinct (chain t)
@@ -35,10 +49,9 @@ module _ (t : List ℕ) where
   sound-distinct e = or-false (any (beyond t) (chain t)) (repeats (chain t)) .0 e .1
 
   pub sound-within : badChain t ≡ false → (k : ℕ) → Chained t k → (1 ≤ k) × (k < records t)
-  unfolding badChain beyond chain
+  unfolding badChain beyond
   sound-within e k h =
-      let z : k ≡ 0 → ⊥ = λ d. omega (arith, follow-zero (records t) t (nextOf t 0), member-count 0 (chain t) .0 (rw d at h)) in
-      omega (arith, leb-false (records t) k (any-false (beyond t) (chain t) .0 (or-false (any (beyond t) (chain t)) (repeats (chain t)) .0 e .0) k h))
+      omega (arith, chain-positive k h, leb-false (records t) k (any-false (beyond t) (chain t) .0 (or-false (any (beyond t) (chain t)) (repeats (chain t)) .0 e .0) k h))
 
   pub sound-length : badLength t ≡ false → badChain t ≡ false → length (chain t) < records t
   sound-length l e = length-between (records t) (chain t) (length-bounds l .0) (sound-distinct e) (sound-within e)

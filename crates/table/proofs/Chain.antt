@@ -36,6 +36,15 @@ nodes-zero zero t k = refl
 nodes-zero (suc n) t zero = refl
 nodes-zero (suc n) t (suc k) = rw (eqb·zero-suc, count-append) (omega (arith, nodes-zero n t (leftOf t (suc k)), nodes-zero n t (rightOf t (suc k))))
 
+-- Two tables with the same next at each record of the chain.
+pub follow-same : (t u : List ℕ) (n k : ℕ) → ((x : ℕ) → T (member x (follow n t k)) → nextOf u x ≡ nextOf t x) → follow n u k ≡ follow n t k
+unfolding follow
+follow-same t u zero k e = refl
+follow-same t u (suc n) zero e = refl
+follow-same t u (suc n) (suc k) e =
+    let m = member-cons (suc k) (suc k) (follow n t (nextOf t (suc k))) .1 (inl refl) in
+    rw (e (suc k) m) (ap (λ (l : List ℕ). suc k ∷ l) (follow-same t u n (nextOf t (suc k)) (λ x m. e x (member-cons x (suc k) (follow n t (nextOf t (suc k))) .1 (inr m)))))
+
 -- A chain shorter than its steps has ended, and a tree with fewer nodes than levels: more of them add nothing.
 pub follow-more : (m n : ℕ) (t : List ℕ) (k : ℕ) → length (follow m t k) < m → follow (m + n) t k ≡ follow m t k
 unfolding follow

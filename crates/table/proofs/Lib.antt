@@ -1,9 +1,12 @@
--- The laws of tables, in the order in which they rest on each other; then those that the steps of a reading need.
+-- The laws of tables, in the order in which they rest on each other; those of what a call says (Saying) and of a word written (Written), which rest on none; then
+-- those that the steps of a reading need.
 pub mod Lists
 pub mod Chain
 pub mod Causes
 pub mod Accepted
 pub mod OffChain
+pub mod Saying
+pub mod Written
 pub mod Form
 pub mod Walking
 pub mod Scan

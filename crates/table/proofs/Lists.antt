@@ -1,6 +1,6 @@
 -- Laws of the questions about a list of numbers (specs/Lists), and the counting law: a list that stands within another, as often or more often, has no greater sum.
 -- `T b` says that the test b passes; a list is distinct if `repeats` is false.
-use mathlib.Core.Path.{_≡_, refl, sym, ap, subst}
+use mathlib.Core.Path.{_≡_, refl, sym, ap, ap₂, subst}
 use mathlib.Core.Logic.{_↔_, _⊎_, inl, inr, ⊎-elim, ⊎-map}
 use mathlib.Core.Bool.{Bool, true, false, not, _||_, cond, or-assoc}
 use mathlib.Core.List.{List, [], _∷_, _++_}
@@ -51,6 +51,12 @@ any-false f (n ∷ ns) = (
       ⊎-elim (λ (x : k ≡ n). rw x (both .0)) (any-false f ns .0 (both .1) k) (member-cons k n ns .0 h),
   λ h. or-false (f n) (any f ns) .1 (h n (member-cons n n ns .1 (inl refl)), any-false f ns .1 (λ k m. h k (member-cons k n ns .1 (inr m)))),
 )
+
+-- Two tests that agree on the list.
+pub any-same : (f g : ℕ → Bool) (ks : List ℕ) → ((k : ℕ) → T (member k ks) → f k ≡ g k) → any f ks ≡ any g ks
+unfolding any
+any-same f g [] e = refl
+any-same f g (n ∷ ns) e = ap₂ _||_ (e n (member-cons n n ns .1 (inl refl))) (any-same f g ns (λ k m. e k (member-cons k n ns .1 (inr m))))
 
 pub member-append : (k : ℕ) (a b : List ℕ) → member k (a ++ b) ≡ member k a || member k b
 unfolding member

@@ -2,45 +2,28 @@
 -- Rests on Lists, Chain, Causes and Accepted.
 use mathlib.Core.Path.{_≡_, refl, sym, ap, ap₂}
 use mathlib.Core.Logic.{_⊎_, inl, inr}
-use mathlib.Core.Bool.{Bool, true, false, cond, _||_}
+use mathlib.Core.Bool.{Bool, true, false, cond}
 use mathlib.Core.List.{List, [], _∷_}
 use Prim.Native.Nat.{ℕ, zero, suc}
 use native.Mathlib.Omega.{arith}
 use lib.Dec.{T}
-use Rattle.table.specs.Lists.{any, member}
-use Rattle.table.specs.Table.{Side, left, right, records, nextOf, leftOf, rightOf, linkOf, tagOf, rootOf, follow, chain, Chained}
+use Rattle.table.specs.Lists.{member}
+use Rattle.table.specs.Table.{Side, left, right, records, nextOf, leftOf, rightOf, linkOf, tagOf, rootOf, chain, Chained}
 use Rattle.table.specs.Tree.{node, descend, treeAt, tree}
 use Rattle.table.specs.Refusal.{badLength, badHead, beyond, badChain, stray, badLinks, isEmpty, links, badTree, shortPlacements, fault, refusal}
 use Rattle.table.specs.OffChain.{OffChain}
-use Rattle.table.proofs.Lists.{T-true, member-cons}
-use Rattle.table.proofs.Causes.{sound-links}
+use Rattle.table.proofs.Lists.{T-true, member-cons, any-same}
+use Rattle.table.proofs.Chain.{follow-same}
+use Rattle.table.proofs.Causes.{cond-same, sound-links}
 use Rattle.table.proofs.Accepted.{fault-none, parented}
 
--- What agrees at each record of a list agrees along it.
-follow-same : (t u : List ℕ) (n k : ℕ) → ((x : ℕ) → T (member x (follow n t k)) → nextOf u x ≡ nextOf t x) → follow n u k ≡ follow n t k
-unfolding follow
-follow-same t u zero k e = refl
-follow-same t u (suc n) zero e = refl
-follow-same t u (suc n) (suc k) e =
-    let m = member-cons (suc k) (suc k) (follow n t (nextOf t (suc k))) .1 (inl refl) in
-    rw (e (suc k) m) (ap (λ (l : List ℕ). suc k ∷ l) (follow-same t u n (nextOf t (suc k)) (λ x m. e x (member-cons x (suc k) (follow n t (nextOf t (suc k))) .1 (inr m)))))
-
-any-same : (f g : ℕ → Bool) (ks : List ℕ) → ((k : ℕ) → T (member k ks) → f k ≡ g k) → any f ks ≡ any g ks
-unfolding any
-any-same f g [] e = refl
-any-same f g (n ∷ ns) e = ap₂ _||_ (e n (member-cons n n ns .1 (inl refl))) (any-same f g ns (λ k m. e k (member-cons k n ns .1 (inr m))))
-
+-- The links of a list of records.
 links-same : (t u ks : List ℕ) → ((k : ℕ) (s : Side) → T (member k ks) → linkOf u s k ≡ linkOf t s k) → links u ks ≡ links t ks
 unfolding links
 links-same t u [] e = refl
 links-same t u (n ∷ ns) e =
     let m = member-cons n n ns .1 (inl refl) in
     rw (e n left m, e n right m, links-same t u ns (λ k s m. e k s (member-cons k n ns .1 (inr m))))
-
--- A later cause is asked only without the one before.
-cond-same : {x y : ℕ} (b : Bool) (n : ℕ) → (b ≡ false → x ≡ y) → cond b n x ≡ cond b n y
-cond-same true n e = refl
-cond-same false n e = e refl
 
 module _ {t u : List ℕ} (h : OffChain t u) where
   pub chain-same : chain u ≡ chain t

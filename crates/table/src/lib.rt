@@ -4,6 +4,7 @@ mod naming;
 mod reach;
 mod walk;
 pub mod words;
+pub mod writing;
 
 use crate::links::marked;
 use crate::links::strays;

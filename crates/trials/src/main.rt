@@ -1,4 +1,4 @@
-// Runs the drawer, the check and the allowed width on the cases of standard input, and prints every answer.
+// Runs the drawer, the check, the allowed width and the wide drawer on the cases of standard input, and prints every answer.
 // What it must print is made by tests/make_trials.py from the reference program. Proved safe; what it prints is tested.
 //
 // A case is a head of four words (16 bits, low byte first) named kind, count, first, step, and what the kind says:
@@ -10,6 +10,7 @@
 //     them up to 600, else 'sum' and the number s at the end of s = (65599 s + number + 1) mod 4294967291, from 0
 //   6 check: prints 'check' and the number
 //   7 width: prints 'width' and the allowed width of count + 2^16 first + 2^32 step
+//   8 wide: prints 'wide', nodes, width and height, or 'wide refused' and the refusal, and the placements as in 5
 // The cases end with the input, or with a head of any other kind.
 mod input;
 mod text;
@@ -20,14 +21,15 @@ use crate::input::filled;
 use crate::input::listed;
 use crate::input::next_head;
 use crate::input::table_bytes;
+use crate::text::number;
 use crate::text::put;
 use crate::text::put_all;
 use crate::text::put_field;
 use crate::text::put_line;
 use crate::text::put_places;
-use crate::text::wide;
 use drawing::Drawn;
 use drawing::Plan;
+use wide::Wide;
 ghost use Prim.Native.Nat.{_<_, _≤_};
 ghost use lib.ListN.{length};
 
@@ -42,9 +44,9 @@ pub struct State {
 fn put_plan(out: &mut [u8], used: usize, plan: Plan) -> usize
     requires { ⌜ 0 < length (now out) ⌝ }
 {
-    let noded = put_field(out, used, wide(plan.nodes));
-    let widened = put_field(out, noded, wide(plan.width));
-    let at = put_field(out, widened, wide(plan.height));
+    let noded = put_field(out, used, number(plan.nodes));
+    let widened = put_field(out, noded, number(plan.width));
+    let at = put_field(out, widened, number(plan.height));
     put(out, at, b'\n')
 }
 
@@ -52,7 +54,7 @@ fn put_drawn(out: &mut [u8], used: usize, drawn: Drawn) -> usize
     requires { ⌜ 0 < length (now out) ⌝ }
 {
     let named = put_all(out, used, b"draw");
-    let at = put_field(out, named, wide(drawn.refusal));
+    let at = put_field(out, named, number(drawn.refusal));
     put_plan(out, at, drawn.plan)
 }
 
@@ -64,10 +66,28 @@ fn run_draw(table: &[u8], places: &mut [u16], out: &mut [u8], used: usize) -> us
     put_places(out, at, places)
 }
 
+fn put_wide(out: &mut [u8], used: usize, answer: Wide) -> usize
+    requires { ⌜ 0 < length (now out) ⌝ }
+{
+    let named = put_all(out, used, b"wide");
+    match answer {
+        Wide::Planned(plan) => put_plan(out, named, plan),
+        Wide::Refused(refusal) => put_line(out, named, b" refused", number(refusal)),
+    }
+}
+
+fn run_wide(table: &[u8], places: &mut [u16], out: &mut [u8], used: usize) -> usize
+    requires { ⌜ 0 < length (now out) ⌝ }
+{
+    let answer = wide::draw_wide(table, places);
+    let at = put_wide(out, used, answer);
+    put_places(out, at, places)
+}
+
 fn run_check(table: &[u8], places: &[u16], out: &mut [u8], used: usize) -> usize
     requires { ⌜ 0 < length (now out) ⌝ }
 {
-    put_line(out, used, b"check", wide(verdict::check(table, places)))
+    put_line(out, used, b"check", number(verdict::check(table, places)))
 }
 
 fn run_width(h: Head, out: &mut [u8], used: usize) -> usize
@@ -92,6 +112,9 @@ fn ask(table: &[u8], places: &mut [u16], out: &mut [u8], used: usize, h: Head) -
     }
     if h.kind == 6 {
         return run_check(table, places, out, used);
+    }
+    if h.kind == 8 {
+        return run_wide(table, places, out, used);
     }
     run_width(h, out, used)
 }
@@ -125,7 +148,7 @@ fn step(table: &mut [u8], places: &mut [u16], out: &mut [u8], s: State) -> State
     ensures { λ r. ⌜ r .places ≤ length (now (places .entry)) ⌝ }
 {
     let h = next_head();
-    if h.kind == 0 || 7 < h.kind {
+    if h.kind == 0 || 8 < h.kind {
         return State {
             bytes: s.bytes,
             places: s.places,

@@ -2,7 +2,7 @@
 ghost use Prim.Native.Nat.{_<_, _≤_};
 ghost use lib.ListN.{length};
 
-pub fn wide(x: u16) -> u64
+pub fn number(x: u16) -> u64
     ensures { λ r. ⌜ r ≤ 65535 ⌝ }
 {
     x as u64
@@ -65,7 +65,7 @@ fn put_numbers(out: &mut [u8], used: usize, numbers: &[u16]) -> usize
     let mut at = put_all(out, used, b"places");
     let mut i = 0;
     while i < numbers.len() {
-        at = put_field(out, at, wide(numbers[i]));
+        at = put_field(out, at, number(numbers[i]));
         i += 1;
     }
     put(out, at, b'\n')
@@ -75,7 +75,7 @@ fn mixed(sum: u64, x: u16) -> u64
     requires { ⌜ sum < 4294967291 ⌝ }
     ensures { λ r. ⌜ r < 4294967291 ⌝ }
 {
-    (65599 * sum + wide(x) + 1) % 4294967291
+    (65599 * sum + number(x) + 1) % 4294967291
 }
 
 fn sum_of(numbers: &[u16]) -> u64 {

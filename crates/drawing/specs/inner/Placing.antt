@@ -4,7 +4,7 @@ use mathlib.Core.Path.{_≡_}
 use mathlib.Core.Bool.{Bool, true, false}
 use mathlib.Core.List.{List, [], _∷_}
 use Prim.Native.Nat.{ℕ, _+_, _*_, _≤_, _<_}
-use lib.ListN.{length, set}
+use lib.ListN.{length}
 use Rattle.table.specs.Lists.{count}
 use Rattle.table.specs.Table.{Side, records}
 use Rattle.table.specs.Tree.{Tree, none, size, nodes, treeAt}
@@ -17,10 +17,6 @@ use Rattle.measure.specs.inner.Forked.{sideOf}
 use Rattle.measure.specs.inner.Prepared.{Prepared, Along}
 use Rattle.drawing.specs.declared.place.Walk.{Walk}
 use Rattle.drawing.specs.Answer.{store}
-
--- The placements with the point of record k.
-abbrev pub withPoint : (k column row : ℕ) → List ℕ → List ℕ
-withPoint k column row p = set (set p (2 * k) column) (2 * k + 1) row
 
 abbrev pub isKnee : Role → Bool
 isKnee knee = true

@@ -1,0 +1,146 @@
+-- The laws of the exchanged table: as long, with the same head, chain and tags; left and right of each chained node exchanged; refused as the table is;
+-- its tree is the mirror image. Rests on Each and on the laws of tables (`table`): a word written, the causes of refusal, what an accepted table is like.
+use mathlib.Core.Path.{_≡_, refl, ap, ap₂, _∙_}
+use mathlib.Core.Logic.{_⊎_, inl, inr}
+use mathlib.Core.Bool.{Bool, true, false, cond, or-comm}
+use mathlib.Core.List.{List, [], _∷_}
+use Prim.Native.Nat.{ℕ, zero, suc, _<_}
+use native.Mathlib.Omega.{arith}
+use lib.Dec.{T}
+use lib.ListN.{length}
+use Rattle.table.specs.Lists.{member, count}
+use Rattle.table.specs.Table.{Side, left, right, records, word, linkOf, nextOf, leftOf, rightOf, tagOf, rootOf, chain, Chained}
+use Rattle.table.specs.Tree.{node, descend, treeAt, tree}
+use Rattle.table.specs.Refusal.{badLength, badHead, beyond, badChain, stray, badLinks, isEmpty, links, badTree, shortPlacements, fault, refusal}
+use Rattle.table.specs.Writing.{withWord}
+use Rattle.table.proofs.Lists.{T-true, member-cons, any-same}
+use Rattle.table.proofs.Chain.{follow-same}
+use Rattle.table.proofs.Causes.{cond-same, chain-positive, sound-distinct, sound-within, sound-links}
+use Rattle.table.proofs.Accepted.{fault-none, parented}
+use Rattle.table.proofs.Written.{length-written, word-written, word-kept}
+use Rattle.layout.specs.Layout.{mirror}
+use Rattle.layout.specs.Spine.{opposite}
+use Rattle.layout.proofs.Rows.{member-mirror}
+use Rattle.exchange.specs.Exchanged.{exchangeLinks, exchanged}
+use Rattle.exchange.proofs.Each.{each-kept, each-length, each-once}
+
+-- One record's links exchanged.
+module _ (k : ℕ) (t : List ℕ) where
+  step-length : length (exchangeLinks k t) ≡ length t
+  unfolding exchangeLinks
+  step-length = length-written k 2 (leftOf t k) (withWord k 1 (rightOf t k) t) ∙ length-written k 1 (rightOf t k) t
+
+  step-kept : (m i : ℕ) → i < 4 → ((m ≡ k) × (i ≡ 1) → ⊥) → ((m ≡ k) × (i ≡ 2) → ⊥) → word (exchangeLinks k t) m i ≡ word t m i
+  unfolding exchangeLinks
+  step-kept m i h a b = word-kept k 2 (leftOf t k) (withWord k 1 (rightOf t k) t) m i h (omega arith) b ∙ word-kept k 1 (rightOf t k) t m i h (omega arith) a
+
+  step-other : (m : ℕ) (s : Side) → (k ≡ m → ⊥) → linkOf (exchangeLinks k t) s m ≡ linkOf t s m
+  step-other m left d = step-kept m 1 (omega arith) (λ e. omega arith) (λ e. omega arith)
+  step-other m right d = step-kept m 2 (omega arith) (λ e. omega arith) (λ e. omega arith)
+
+  step-link : k < records t → (s : Side) → linkOf (exchangeLinks k t) s k ≡ linkOf t (opposite s) k
+  unfolding exchangeLinks opposite
+  step-link h left =
+      word-kept k 2 (leftOf t k) (withWord k 1 (rightOf t k) t) k 1 (omega arith) (omega arith) (λ e. omega arith) ∙ word-written k 1 (rightOf t k) t (omega arith)
+  step-link h right = word-written k 2 (leftOf t k) (withWord k 1 (rightOf t k) t) (omega (arith, length-written k 1 (rightOf t k) t))
+
+-- What is named as a child where left and right are exchanged.
+named-same : (t u : List ℕ) (x : ℕ) (ks : List ℕ) → ((k : ℕ) (s : Side) → T (member k ks) → linkOf u s k ≡ linkOf t (opposite s) k) →
+    count x (links u ks) ≡ count x (links t ks)
+unfolding links count opposite
+named-same t u x [] e = refl
+named-same t u x (n ∷ ns) e =
+    let m = member-cons n n ns .1 (inl refl) in
+    rw (e n left m, e n right m) (omega (arith, named-same t u x ns (λ k s m. e k s (member-cons k n ns .1 (inr m)))))
+
+module _ (t : List ℕ) where
+  pub exchanged-length : length (exchanged t) ≡ length t
+  unfolding exchanged
+  exchanged-length = each-length exchangeLinks step-length (chain t) t
+
+  pub exchanged-head : (j : ℕ) → j < 4 → word (exchanged t) 0 j ≡ word t 0 j
+  unfolding exchanged
+  exchanged-head j h =
+      each-kept exchangeLinks (λ u. word u 0 j) (chain t) t (λ k m u. let p = chain-positive t k m in step-kept k u 0 j h (λ e. omega arith) (λ e. omega arith))
+
+  pub exchanged-next : (k : ℕ) → nextOf (exchanged t) k ≡ nextOf t k
+  unfolding exchanged
+  exchanged-next k = each-kept exchangeLinks (λ u. nextOf u k) (chain t) t (λ n m u. step-kept n u k 0 (omega arith) (λ e. omega arith) (λ e. omega arith))
+
+  pub exchanged-tag : (k : ℕ) → tagOf (exchanged t) k ≡ tagOf t k
+  unfolding exchanged
+  exchanged-tag k = each-kept exchangeLinks (λ u. tagOf u k) (chain t) t (λ n m u. step-kept n u k 3 (omega arith) (λ e. omega arith) (λ e. omega arith))
+
+  pub exchanged-chain : chain (exchanged t) ≡ chain t
+  unfolding chain
+  exchanged-chain = rw (exchanged-length, exchanged-next 0) (follow-same t (exchanged t) (records t) (nextOf t 0) (λ k m. exchanged-next k))
+
+  pub exchanged-link : badChain t ≡ false → (k : ℕ) (s : Side) → Chained t k → linkOf (exchanged t) s k ≡ linkOf t (opposite s) k
+  unfolding exchanged
+  exchanged-link ok k s c =
+      each-once exchangeLinks step-length (λ u. linkOf u s k) (λ u. linkOf u (opposite s) k) k (length t)
+      (λ m d u. (step-other m u k s d, step-other m u k (opposite s) d))
+      (λ u e. step-link k u (rw e (sound-within t ok k c .1)) s) (chain t) t (sound-distinct t ok) c refl
+
+  -- Without 3 and 4, the trees at chained records.
+  descend-mirror : badChain t ≡ false → badLinks t ≡ false → (n k : ℕ) → (k ≡ 0) ⊎ Chained t k → descend n (exchanged t) k ≡ mirror (descend n t k)
+  unfolding descend mirror opposite
+  descend-mirror ok e zero k c = refl
+  descend-mirror ok e (suc n) zero c = refl
+  descend-mirror ok e (suc n) (suc k) (inl z) = absurd (omega arith)
+  descend-mirror ok e (suc n) (suc k) (inr c) =
+      rw (exchanged-link ok (suc k) left c, exchanged-link ok (suc k) right c)
+      (ap₂ (node (suc k)) (descend-mirror ok e n (rightOf t (suc k)) (sound-links t e (suc k) right c))
+      (descend-mirror ok e n (leftOf t (suc k)) (sound-links t e (suc k) left c)))
+
+  at-mirror : badChain t ≡ false → badLinks t ≡ false → (k : ℕ) → (k ≡ 0) ⊎ Chained t k → treeAt (exchanged t) k ≡ mirror (treeAt t k)
+  at-mirror ok e k c = rw exchanged-length (descend-mirror ok e (records t) k c)
+
+  root-same : rootOf (exchanged t) ≡ rootOf t
+  root-same = exchanged-head 1 (omega arith)
+
+  -- The causes 3 to 5, each without those before.
+  chain-bad : badChain (exchanged t) ≡ badChain t
+  unfolding badChain beyond
+  chain-bad = rw (exchanged-chain, any-same (beyond (exchanged t)) (beyond t) (chain t) (λ k m. rw exchanged-length))
+
+  links-bad : badChain t ≡ false → badLinks (exchanged t) ≡ badLinks t
+  unfolding badLinks stray beyond opposite
+  links-bad ok =
+      rw (exchanged-chain, exchanged-length)
+      (any-same _ _ (chain t) (λ k m. rw (exchanged-link ok k left m, exchanged-link ok k right m) (or-comm (stray t (rightOf t k)) (stray t (leftOf t k)))))
+
+  tree-bad : badChain t ≡ false → badLinks t ≡ false → badTree (exchanged t) ≡ badTree t
+  unfolding badTree isEmpty
+  tree-bad ok e = go (member (rootOf t) (chain t)) refl
+    where
+      named : (x : ℕ) → count x (links (exchanged t) (chain t)) ≡ count x (links t (chain t))
+      named x = named-same t (exchanged t) x (chain t) (exchanged-link ok)
+
+      go : (b : Bool) → member (rootOf t) (chain t) ≡ b → badTree (exchanged t) ≡ badTree t
+      go true m =
+          let r = at-mirror ok e (rootOf t) (inr (T-true (member (rootOf t) (chain t)) .1 m)) in
+          simp (exchanged-chain, exchanged-next, root-same, named, r, member-mirror)
+      go false m = rw (exchanged-chain, exchanged-next 0, root-same, m)
+
+  pub exchanged-fault : fault (exchanged t) ≡ fault t
+  unfolding fault badLength badHead
+  exchanged-fault =
+      rw (
+        exchanged-length,
+        exchanged-head 2 (omega arith),
+        exchanged-head 3 (omega arith),
+        chain-bad,
+        cond-same (badChain t) 3
+            (λ ok. ap (λ b. cond b 4 (cond (badTree (exchanged t)) 5 0)) (links-bad ok) ∙ cond-same (badLinks t) 4 (λ e. ap (λ b. cond b 5 0) (tree-bad ok e))),
+      )
+
+  pub exchanged-refusal : (places : ℕ) → refusal (exchanged t) places ≡ refusal t places
+  unfolding refusal shortPlacements
+  exchanged-refusal places = rw (exchanged-fault, exchanged-length)
+
+  pub exchanged-tree-at : fault t ≡ 0 → (k : ℕ) → (k ≡ 0) ⊎ Chained t k → treeAt (exchanged t) k ≡ mirror (treeAt t k)
+  exchanged-tree-at ok = at-mirror (fault-none t ok .2) (fault-none t ok .3)
+
+  pub exchanged-tree : fault t ≡ 0 → tree (exchanged t) ≡ mirror (tree t)
+  exchanged-tree ok = rw root-same (exchanged-tree-at ok (rootOf t) (parented t ok .root))

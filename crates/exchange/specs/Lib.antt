@@ -1,0 +1,2 @@
+-- The exchanged table and the exchanged placements.
+pub mod Exchanged

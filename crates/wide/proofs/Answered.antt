@@ -1,0 +1,52 @@
+-- The answer of the call: refused, of the empty tree, and of a plan. Rests on Mirrored and on the laws of what a call says.
+use mathlib.Core.Path.{_≡_, sym, ap, _∙_}
+use mathlib.Core.Logic.{_≢_}
+use mathlib.Core.List.{List}
+use Prim.Native.Nat.{ℕ}
+use lib.ListN.{length}
+use borrow.Author.Tests.{eq-eqb, ne-eqb}
+use Rattle.table.specs.Table.{chain}
+use Rattle.table.specs.Tree.{Tree, none, size, tree}
+use Rattle.table.specs.Refusal.{fault, refusal}
+use Rattle.table.proofs.Saying.{answered-none, answered-refused}
+use Rattle.layout.specs.Layout.{width, height, mirror}
+use Rattle.layout.specs.Drawing.{drawing, draw}
+use Rattle.drawing.specs.declared.Plan.{Plan}
+use Rattle.drawing.specs.Answer.{store, emptyPlan}
+use Rattle.drawing.proofs.Whole.{no-tree}
+use Rattle.wide.specs.declared.Wide.the-variants.{Planned, Refused}
+use Rattle.wide.specs.Wide.{transposed, drawWide, said, wideOf, widePlacedIn}
+use Rattle.wide.specs.inner.Planned.{widePlanOf}
+
+module _ (t p : List ℕ) where
+  pub wide-left : refusal t (length p) ≢ 0 → widePlacedIn t p ≡ p
+  unfolding widePlacedIn
+  wide-left h = rw (widePlacedIn, ne-eqb (refusal t (length p)) 0 h)
+
+  pub wide-refused : (n : ℕ) → n ≡ refusal t (length p) → n ≢ 0 → (said (Refused n) ≡ wideOf t p) × (p ≡ widePlacedIn t p)
+  unfolding said wideOf
+  wide-refused n e h =
+      let no : refusal t (length p) ≢ 0 = λ z. h (e ∙ z) in
+      (rw e (sym (answered-refused (refusal t (length p)) _ no)), sym (wide-left no))
+
+  module _ (unrefused : refusal t (length p) ≡ 0) where
+    pub wide-placed : widePlacedIn t p ≡ store (drawWide (tree t)) p
+    unfolding widePlacedIn
+    wide-placed = rw (widePlacedIn, eq-eqb (refusal t (length p)) 0 unrefused)
+
+    pub wide-answered : (p′ : List ℕ) (a : Plan) → (a ≡ widePlanOf t) × (p′ ≡ store (drawWide (tree t)) p) → (said (Planned a) ≡ wideOf t p) × (p′ ≡ widePlacedIn t p)
+    unfolding said wideOf widePlanOf
+    wide-answered p′ a d = (rw (d .0) (sym (answered-none (refusal t (length p)) _ unrefused)), d .1 ∙ sym wide-placed)
+
+    pub wide-nothing : fault t ≡ 0 → length (chain t) ≡ 0 → (said (Planned emptyPlan) ≡ wideOf t p) × (p ≡ widePlacedIn t p)
+    unfolding widePlanOf drawWide transposed mirror draw drawing size width height store
+    wide-nothing ok e = wide-answered p emptyPlan (sym plan, sym (ap (λ (T : Tree). store (drawWide T) p) bare))
+      where
+        bare : tree t ≡ none
+        bare = no-tree t ok e
+
+        plan : widePlanOf t ≡ emptyPlan
+        plan =
+            let w : width (drawWide (tree t)) ≡ 0 = ap (λ (T : Tree). width (drawWide T)) bare in
+            let h : height (drawWide (tree t)) ≡ 0 = ap (λ (T : Tree). height (drawWide T)) bare in
+            cc

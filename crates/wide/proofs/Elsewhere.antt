@@ -1,0 +1,67 @@
+-- The wide call too writes the entries of chained nodes only: "Entries of the head, of unchained records and beyond are kept", refused or not: `wide-kept-head`,
+-- `wide-kept-elsewhere`, `wide-kept-beyond`. And off the chain left, right and tag change no answer: `off-chain-wide`. Rests on Answered and Transposed.
+use mathlib.Core.Path.{_≡_, sym, ap, _∙_}
+use mathlib.Core.List.{List}
+use Prim.Native.Nat.{ℕ, _*_, _/_, _≤_, _<_}
+use native.Mathlib.Decide.{ℕ-discrete}
+use native.Mathlib.Omega.{arith}
+use lib.ListN.{length, getD}
+use Rattle.table.specs.Lists.{count}
+use Rattle.table.specs.Table.{records, Chained}
+use Rattle.table.specs.Tree.{Tree, nodes, tree}
+use Rattle.table.specs.Refusal.{fault, refusal}
+use Rattle.table.specs.OffChain.{OffChain}
+use Rattle.table.proofs.Lists.{member-count}
+use Rattle.table.proofs.Accepted.{refusal-none, chain-within, nodes-chain}
+use Rattle.table.proofs.OffChain.{chain-same, refusal-same, tree-same}
+use Rattle.table.proofs.Saying.{answered-refused}
+use Rattle.layout.specs.Layout.{mirror}
+use Rattle.layout.specs.Drawing.{draw}
+use Rattle.layout.proofs.Rows.{member-mirror}
+use Rattle.layout.proofs.Theorem.{promise}
+use Rattle.drawing.proofs.StoredPoints.{times}
+use Rattle.drawing.proofs.Elsewhere.{stored-elsewhere}
+use Rattle.wide.specs.Wide.{drawWide, wideOf, widePlacedIn}
+use Rattle.wide.proofs.Transposed.{shape-transposed}
+use Rattle.wide.proofs.Answered.{wide-placed, wide-left}
+
+-- The records of the wide drawing are the chained ones.
+wide-chained : (t : List ℕ) → fault t ≡ 0 → (k : ℕ) → 1 ≤ times k (drawWide (tree t)) → Chained t k
+unfolding drawWide
+wide-chained t ok k h = nodes-chain t ok k .0 (rw (member-mirror k (tree t)) at (member-count k (nodes (mirror (tree t))) .1 (rw same at h)))
+  where
+    same : times k (drawWide (tree t)) ≡ count k (nodes (mirror (tree t)))
+    same = ap (λ (T : Tree). count k (nodes T)) (shape-transposed (draw (mirror (tree t))) ∙ promise (mirror (tree t)) .same)
+
+module _ (t p : List ℕ) (i : ℕ) where
+  kept : (fault t ≡ 0 → Chained t (i / 2) → ⊥) → getD (widePlacedIn t p) i 0 ≡ getD p i 0
+  kept off = go (ℕ-discrete (refusal t (length p)) 0)
+    where
+      go : Dec (refusal t (length p) ≡ 0) → getD (widePlacedIn t p) i 0 ≡ getD p i 0
+      go (yes e) = let ok = refusal-none t (length p) .0 e .0 in rw (wide-placed t p e) (stored-elsewhere t p (drawWide (tree t)) i (wide-chained t ok) (off ok))
+      go (no n) = rw (wide-left t p n)
+
+  pub wide-kept-elsewhere : (Chained t (i / 2) → ⊥) → getD (widePlacedIn t p) i 0 ≡ getD p i 0
+  wide-kept-elsewhere off = kept (λ ok. off)
+
+  pub wide-kept-head : i < 2 → getD (widePlacedIn t p) i 0 ≡ getD p i 0
+  wide-kept-head h = kept (λ ok c. omega (arith, chain-within t ok (i / 2) c))
+
+  pub wide-kept-beyond : 2 * records t ≤ i → getD (widePlacedIn t p) i 0 ≡ getD p i 0
+  wide-kept-beyond h = kept (λ ok c. omega (arith, chain-within t ok (i / 2) c))
+
+pub off-chain-wide : (t u p : List ℕ) → OffChain t u → (wideOf u p ≡ wideOf t p) × (widePlacedIn u p ≡ widePlacedIn t p)
+unfolding wideOf
+off-chain-wide t u p h = go (ℕ-discrete (refusal t (length p)) 0)
+  where
+    same : refusal u (length p) ≡ refusal t (length p)
+    same = refusal-same h (length p)
+
+    go : Dec (refusal t (length p) ≡ 0) → (wideOf u p ≡ wideOf t p) × (widePlacedIn u p ≡ widePlacedIn t p)
+    go (yes e) =
+        let r = tree-same h (refusal-none t (length p) .0 e .0) in
+        (rw (same, chain-same h, r), wide-placed u p (same ∙ e) ∙ (rw r (sym (wide-placed t p e))))
+    go (no n) = (
+      rw same (answered-refused (refusal t (length p)) _ n ∙ sym (answered-refused (refusal t (length p)) _ n)),
+      wide-left u p (λ e. n (sym same ∙ e)) ∙ sym (wide-left t p n),
+    )
