@@ -1,12 +1,11 @@
 -- The wide call too writes the entries of chained nodes only: "Entries of the head, of unchained records and beyond are kept", refused or not: `wide-kept-head`,
 -- `wide-kept-elsewhere`, `wide-kept-beyond`. And off the chain left, right and tag change no answer: `off-chain-wide`. Rests on Answered and Transposed.
-use mathlib.Core.Path.{_≡_, sym, ap, _∙_}
+use mathlib.Core.Path.{_≡_, sym, _∙_}
 use mathlib.Core.List.{List}
 use Prim.Native.Nat.{ℕ, _*_, _/_, _≤_, _<_}
 use native.Mathlib.Decide.{ℕ-discrete}
 use native.Mathlib.Omega.{arith}
 use lib.ListN.{length, getD}
-use Rattle.table.specs.Lists.{count}
 use Rattle.table.specs.Table.{records, Chained}
 use Rattle.table.specs.Tree.{Tree, nodes, tree}
 use Rattle.table.specs.Refusal.{fault, refusal}
@@ -17,7 +16,7 @@ use Rattle.table.proofs.OffChain.{chain-same, refusal-same, tree-same}
 use Rattle.table.proofs.Saying.{answered-refused}
 use Rattle.layout.specs.Layout.{mirror}
 use Rattle.layout.specs.Drawing.{draw}
-use Rattle.layout.proofs.Rows.{member-mirror}
+use Rattle.layout.proofs.Rows.{shape, member-mirror}
 use Rattle.layout.proofs.Theorem.{promise}
 use Rattle.drawing.proofs.StoredPoints.{times}
 use Rattle.drawing.proofs.Elsewhere.{stored-elsewhere}
@@ -25,13 +24,13 @@ use Rattle.wide.specs.Wide.{drawWide, wideOf, widePlacedIn}
 use Rattle.wide.proofs.Transposed.{shape-transposed}
 use Rattle.wide.proofs.Answered.{wide-placed, wide-left}
 
--- The records of the wide drawing are the chained ones.
-wide-chained : (t : List ℕ) → fault t ≡ 0 → (k : ℕ) → 1 ≤ times k (drawWide (tree t)) → Chained t k
+-- The wide drawing has the nodes and the links of the mirror image, so its records are the chained ones.
+wide-shape : (T : Tree) → shape (drawWide T) ≡ mirror T
 unfolding drawWide
-wide-chained t ok k h = nodes-chain t ok k .0 (rw (member-mirror k (tree t)) at (member-count k (nodes (mirror (tree t))) .1 (rw same at h)))
-  where
-    same : times k (drawWide (tree t)) ≡ count k (nodes (mirror (tree t)))
-    same = ap (λ (T : Tree). count k (nodes T)) (shape-transposed (draw (mirror (tree t))) ∙ promise (mirror (tree t)) .same)
+wide-shape T = shape-transposed (draw (mirror T)) ∙ promise (mirror T) .same
+
+wide-chained : (t : List ℕ) → fault t ≡ 0 → (k : ℕ) → 1 ≤ times k (drawWide (tree t)) → Chained t k
+wide-chained t ok k h = nodes-chain t ok k .0 (rw (member-mirror k (tree t)) at (member-count k (nodes (mirror (tree t))) .1 (rw (wide-shape (tree t)) at h)))
 
 module _ (t p : List ℕ) (i : ℕ) where
   kept : (fault t ≡ 0 → Chained t (i / 2) → ⊥) → getD (widePlacedIn t p) i 0 ≡ getD p i 0
