@@ -1,13 +1,14 @@
-/* Drawing an ordered binary tree on a grid, and checking such drawings.
+/* Drawing an ordered binary tree on a grid, checking such drawings, and plotting them by a pen.
  *
- * Link target/staticlib/libbt.a, which `rt staticlib bt` makes; of the C library it wants memset alone. All functions end, allocate nothing, keep nothing between
+ * Link target/staticlib/libbt.a, which `rt staticlib bt` makes; of the C library it wants memcpy and memset alone. All functions end, allocate nothing, keep nothing between
  * calls, and may be called from several threads at once. Their stack was measured below 100 KB.
  *
  * A table is bytes in records of 8: four unsigned 16-bit words, low byte first: next, left, right, tag. Record 0 is the head: next names the first record of the
  * chain, left the root, right and tag are 0. Left and right name children, 0 is none. At most 4,097 records. Placements are 16-bit numbers: record k has its column
  * at 2k and its row at 2k + 1. Lengths count elements, not bytes.
  *
- * A pointer is never NULL, not even with the length 0; placements are aligned as uint16_t is, and table and placements do not overlap. */
+ * A pointer is never NULL, not even with the length 0; placements are aligned as uint16_t is, a point as double is, and no two of table, placements and point
+ * overlap. */
 #ifndef BT_H
 #define BT_H
 
@@ -41,11 +42,24 @@ uint32_t bt_check(const uint8_t *table, size_t table_len, const uint16_t *placem
  * bt_draw keeps to it, and the height of bt_draw_wide. */
 uint64_t bt_allowed_width(uint64_t nodes);
 
-/* The parts of what bt_draw and bt_draw_wide answer. */
+/* One stroke of a pen that plots the lines of a table with any placements, good or not. Each line, from a node to a child of it, gives a lift to the parent and then
+ * a draw to the child. Lines go by parent in the order of the chain, left first, strokes are numbered from 0, and a number past the last stroke gives done. The pitch
+ * is that of the grid, in quarter millimetres: a coordinate, in millimetres, is the column or the row times the pitch, divided by 4, and is exact. For a lift or a
+ * draw, where point_len is 2 or more, the column's coordinate is written to point[0] and the row's to point[1]; nothing else is ever written. Answers the refusal in
+ * bits 0 to 15, and in bits 16 to 31 0 for done, 1 for a lift, 2 for a draw. A refusal is its number alone, 1 to 6 for the causes that bt_draw has, then 7 for pitch 0:
+ * all other bits are 0. */
+uint32_t bt_stroke(const uint8_t *table, size_t table_len, const uint16_t *placements, size_t placements_len, uint8_t pitch, uint64_t number, double *point,
+                   size_t point_len);
+
+/* The parts of what bt_draw and bt_draw_wide answer; the first is in what bt_stroke answers too. */
 static inline unsigned bt_refusal(uint64_t drawn) { return drawn & 0xffff; }
 static inline unsigned bt_nodes(uint64_t drawn) { return drawn >> 16 & 0xffff; }
 static inline unsigned bt_width(uint64_t drawn) { return drawn >> 32 & 0xffff; }
 static inline unsigned bt_height(uint64_t drawn) { return drawn >> 48 & 0xffff; }
+
+/* What the pen does, in what bt_stroke answers if it is no refusal. */
+enum { BT_PEN_DONE, BT_PEN_LIFT, BT_PEN_DRAW };
+static inline unsigned bt_pen(uint32_t stroke) { return stroke >> 16; }
 
 #ifdef __cplusplus
 }

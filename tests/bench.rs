@@ -1,4 +1,4 @@
-// Times draw, wide draw, check and the whole program beside the Rust reference, and wide draw beside draw, in one run.
+// Times draw, wide draw, check, strokes and the whole program beside the Rust reference, and wide draw beside draw, in one run.
 //   bench PLAN REFERENCE FOLDER: the two programs, and a folder for the tables
 mod oracle;
 use oracle::reference::cases::{timed_sheet, timed_table, SHAPES, SHEETS};
@@ -9,7 +9,7 @@ use std::hint::black_box;
 use std::process::{Command, Stdio};
 use std::time::Instant;
 
-/// The least times of two things in microseconds, each run in turn for a while, often enough at a time to be measured.
+/// The least times of two things in microseconds, each run in turn for a while and thrice at least, often enough at a time to be measured.
 /// By a steady clock: other work on the machine only adds.
 fn two(mut f: impl FnMut(), mut g: impl FnMut()) -> (f64, f64) {
     let time = |h: &mut dyn FnMut(), times: usize| {
@@ -19,12 +19,16 @@ fn two(mut f: impl FnMut(), mut g: impl FnMut()) -> (f64, f64) {
         }
         begun.elapsed().as_secs_f64() * 1e6 / times as f64
     };
-    let often = |h: &mut dyn FnMut()| (100.0 / (0..9).map(|_| time(h, 1)).fold(100.0, f64::min)) as usize + 1;
+    let often = |h: &mut dyn FnMut()| {
+        let first = time(h, 1);
+        if first > 1000.0 { 1 } else { (100.0 / (0..9).map(|_| time(h, 1)).fold(100.0, f64::min)) as usize + 1 }
+    };
     let (k, l) = (often(&mut f), often(&mut g));
-    let (mut least, begun) = ((f64::MAX, f64::MAX), Instant::now());
-    while begun.elapsed().as_millis() < 800 {
+    let (mut least, mut turns, begun) = ((f64::MAX, f64::MAX), 0, Instant::now());
+    while turns < 3 || begun.elapsed().as_millis() < 800 {
         least.0 = least.0.min(time(&mut f, k));
         least.1 = least.1.min(time(&mut g, l));
+        turns += 1;
     }
     least
 }
@@ -36,6 +40,25 @@ fn run(program: &str, table: &str) {
 
 fn row(what: &str, (a, b): (f64, f64)) -> String {
     format!(" | {what} {a:>8.1} {b:>8.1} {:>6.2}", a / b)
+}
+
+/// The pitch of the grid for strokes: 2.5 mm.
+const PITCH: u8 = 10;
+
+/// The times of all strokes of a sheet, one call each, of one of them in the mean, and of the last.
+fn strokes(theirs: &mut Reference, table: &[u8], places: &[u16]) -> String {
+    let count = 2 * (table.len() as u64 / 8 - 2);
+    let (mut point, mut other) = ([0.0; 2], [0.0; 2]);
+    for number in 0..=count {
+        let (a, b) = (ours::stroke(table, places, PITCH, number, &mut point), theirs.stroke(table, places, PITCH, number, &mut other));
+        assert_eq!((a, point.map(f64::to_bits)), (b, other.map(f64::to_bits)));
+        assert_eq!(a, if number == count { 0 } else { 0x1_0000 << number % 2 });
+    }
+    let mut timed = |from: u64| two(
+        || for number in from..count { black_box(ours::stroke(black_box(table), places, PITCH, number, &mut point)); },
+        || for number in from..count { black_box(theirs.stroke(black_box(table), places, PITCH, number, &mut other)); });
+    let (a, b) = timed(0);
+    row("all strokes", (a, b)) + &row("mean", (a / count as f64, b / count as f64)) + &row("last", timed(count - 1))
 }
 
 /// A wide draw of 4,096 nodes may take so many times as long as our plain draw.
@@ -84,6 +107,15 @@ fn main() {
             let t = two(|| run(plan, &file), || run(reference, &file));
             line += &row("program", t);
             println!("{line}");
+        }
+    }
+    println!("strokes of drawn sheets");
+    for n in [64, 512, 4096] {
+        for shape in SHAPES {
+            let table = timed_table(shape, n);
+            let mut places = vec![0u16; 2 * (n + 1)];
+            ours::draw(&table, &mut places);
+            println!("{n:>4} {shape:<12}{}", strokes(&mut theirs, &table, &places));
         }
     }
     println!("sheets that the drawer did not make");

@@ -16,14 +16,19 @@ struct Run {
     calls: u64,
     shared: u64,
     differences: u64,
-    answers: [[u64; 32]; 3],
+    answers: [[u64; 32]; 4],
 }
 
 /// The calls whose answers are counted.
-const CALLS: [&str; 3] = ["draw", "wide", "check"];
+const CALLS: [&str; 4] = ["draw", "wide", "check", "stroke"];
 const DRAW: usize = 0;
 const WIDE: usize = 1;
 const CHECK: usize = 2;
+const STROKE: usize = 3;
+
+/// Where the lifts and the draws of strokes are counted; all other answers are counted by their number.
+const LIFTS: usize = 30;
+const DRAWS: usize = 31;
 
 fn bytes_of(places: &[u16]) -> Vec<u8> {
     places.iter().flat_map(|x| x.to_le_bytes()).collect()
@@ -45,8 +50,8 @@ impl Run {
         self.judge(a.ours == a.theirs, a.told, &a.table, &a.places);
     }
 
-    /// A call for the other reference: which, the lengths, the table, the placements before, our answer, the placements after.
-    fn to_share(&mut self, which: u8, table: &[u8], before: &[u16], answer: u64, after: &[u16]) {
+    /// A call for the other reference: which, the lengths, the table, the placements before, our answer, and more by the call.
+    fn to_share(&mut self, which: u8, table: &[u8], before: &[u16], answer: u64, more: &[u8]) {
         if !self.sharing {
             return;
         }
@@ -56,7 +61,7 @@ impl Run {
         v.extend_from_slice(table);
         v.extend(bytes_of(before));
         v.extend_from_slice(&answer.to_le_bytes());
-        v.extend(bytes_of(after));
+        v.extend_from_slice(more);
         self.share.write_all(&v).unwrap();
         self.shared += 1;
     }
@@ -84,7 +89,7 @@ impl Run {
             (ours::draw(table, places), self.reference.draw(table, &mut theirs))
         };
         self.answers[call][(b & 31) as usize] += 1;
-        self.to_share(if call == WIDE { b'w' } else { b'd' }, table, &before, a, places);
+        self.to_share(if call == WIDE { b'w' } else { b'd' }, table, &before, a, &bytes_of(places));
         let told = format!("{}: ours {a:#x}, reference {b:#x}, placements {}", CALLS[call], if *places == theirs { "equal" } else { "differ" });
         self.judge(a == b && *places == theirs, told, table, &before);
     }
@@ -105,6 +110,29 @@ impl Run {
         self.judge(a == b, format!("check: ours {a}, reference {b}"), table, places);
     }
 
+    /// A stroke, with a point of so many floats, which hold marks before. For the other reference: pitch, floats, number, and the floats afterwards.
+    fn stroke(&mut self, table: &[u8], places: &[u16], pitch: u8, number: u64, floats: usize) {
+        let mut point: Vec<f64> = (0..floats).map(|i| -1.0 - i as f64).collect();
+        let mut theirs = point.clone();
+        let a = ours::stroke(table, places, pitch, number, &mut point);
+        let b = self.reference.stroke(table, places, pitch, number, &mut theirs);
+        self.answers[STROKE][match b >> 16 { 1 => LIFTS, 2 => DRAWS, _ => b as usize }] += 1;
+        let mut more = vec![pitch, floats as u8];
+        more.extend_from_slice(&number.to_le_bytes());
+        more.extend(point.iter().flat_map(|x| x.to_bits().to_le_bytes()));
+        self.to_share(b's', table, places, a as u64, &more);
+        let same = a == b && point.iter().zip(&theirs).all(|(x, y)| x.to_bits() == y.to_bits());
+        self.judge(same, format!("stroke {number} with pitch {pitch}: ours {a:#x} {point:?}, reference {b:#x} {theirs:?}"), table, places);
+    }
+
+    /// A few strokes of a sheet.
+    fn strokes(&mut self, cases: &mut Cases, table: &[u8], places: &[u16]) {
+        for _ in 0..2 {
+            let (pitch, number, floats) = (cases.pitch(), cases.number(table.len() / 8), cases.below(4));
+            self.stroke(table, places, pitch, number, floats);
+        }
+    }
+
     fn width(&mut self, n: u64) {
         let (a, b) = (ours::width(n), reference_width(n));
         self.judge(a == b, format!("width of {n}: ours {a}, reference {b}"), &[], &[]);
@@ -120,7 +148,7 @@ fn main() {
     let share = fs::File::create(format!("{folder}/share")).unwrap();
     let mut run = Run {
         seed, folder, reference: Reference::new(), share,
-        sharing: false, calls: 0, shared: 0, differences: 0, answers: [[0; 32]; 3],
+        sharing: false, calls: 0, shared: 0, differences: 0, answers: [[0; 32]; 4],
     };
     let mut cases = Cases::new(seed);
     for i in 0..count {
@@ -131,6 +159,7 @@ fn main() {
         run.turned(&case.table, &places);
         run.draw(DRAW, &case.table, &mut case.places);
         run.check(&case.table, &case.places);
+        run.strokes(&mut cases, &case.table, &case.places);
         run.check(&case.table, &case.points);
         let records = case.places.len() / 2;
         if records > 0 {
@@ -140,6 +169,7 @@ fn main() {
             }
         }
         run.check(&case.table, &case.places);
+        run.strokes(&mut cases, &case.table, &case.places);
         run.any(cases.seed());
     }
     run.sharing = false;
@@ -148,7 +178,8 @@ fn main() {
     }
     println!("{} calls beside racksheet.rs, {} differences; answers", run.calls, run.differences);
     for (call, answers) in CALLS.iter().zip(run.answers) {
-        let told: Vec<String> = (0..32).filter(|&k| answers[k] > 0).map(|k| format!("{k}: {}", answers[k])).collect();
+        let name = |k: usize| match k { LIFTS => "lift".to_string(), DRAWS => "draw".to_string(), _ => k.to_string() };
+        let told: Vec<String> = (0..32).filter(|&k| answers[k] > 0).map(|k| format!("{}: {}", name(k), answers[k])).collect();
         println!("  {call} {}", told.join(", "));
     }
     println!("{} of them go to racksheet.py", run.shared);

@@ -5,6 +5,7 @@ import os
 import struct
 import subprocess
 import sys
+from fractions import Fraction
 
 here = os.path.dirname(os.path.abspath(__file__))
 sys.dont_write_bytecode = True
@@ -66,6 +67,17 @@ while at < len(data):
         draws += which == b'd'
         if which == b'd' and draws % 10 == 1:
             run(table)
+    elif which == b's':
+        pitch, floats, number = struct.unpack('<BBQ', take(10))
+        found, point = take(8 * floats), [-1.0 - i for i in range(floats)]
+        refusal, kind, place = racksheet.stroke(table, before, pitch, number, UPTO)
+        if place is not None and floats >= 2:
+            point[:2] = map(float, place)
+            assert tuple(map(Fraction, point[:2])) == place     # exact
+        wanted = refusal | kind << 16
+        if (answer, found) != (wanted, struct.pack('<%dd' % floats, *point)):
+            save('stroke', table, before, 'number %d, pitch %d: ours %#x %s, reference %#x %s' %
+                 (number, pitch, answer, struct.unpack('<%dd' % floats, found), wanted, point))
     else:
         wanted = racksheet.check(table, before, UPTO)
         if answer != wanted:

@@ -1,13 +1,16 @@
 #!/usr/bin/env python3
 """Makes crates/trials/stdin and crates/trials/stdout anew, always the same, from a fixed seed.
 
-The cases are sheets of document 01, every refusal and every verdict in several ways, and random trees; each table that is drawn is drawn wide as well.
+The cases are sheets of document 01, every refusal and every verdict in several ways, and random trees; each table that is drawn is drawn wide as well,
+and each that is refused, and the drawing of each larger random tree, is asked for strokes.
 What must be printed comes from the reference program alone (reference/racksheet.py), never from our code.
 The form of the cases is told at the head of crates/trials/src/main.rt.
 """
 import os
 import random
+import struct
 import sys
+from fractions import Fraction
 
 here = os.path.dirname(os.path.abspath(__file__))
 sys.path[:0] = [here, os.path.join(here, 'reference')]
@@ -30,6 +33,13 @@ def seeded(part):
 
 def sequence(count, first, step):
     return [(first + step * i) % 65536 for i in range(count)]
+
+
+def bits(number):
+    """The bit pattern of the 64-bit float that is a number, exactly."""
+    x = float(number)
+    assert Fraction(x) == number
+    return int.from_bytes(struct.pack('<d', x), 'little')
 
 
 class Trials:
@@ -73,6 +83,7 @@ class Trials:
         refusal, n, width, height, self.places = racksheet.draw(self.bytes, self.places, UPTO)
         self.lines.append('draw %d %d %d %d' % (refusal, n, width, height))
         self.placed()
+        return refusal
 
     def check(self):
         self.case(6)
@@ -88,15 +99,27 @@ class Trials:
         self.lines.append('wide refused %d' % refusal if refusal else 'wide %d %d %d' % (n, width, height))
         self.placed()
 
-    def every(self, data, first=0, step=0, short=0, extra=0):
-        """Draws a table wide, then draws it and checks the drawing, on placements that tell which were kept."""
+    def stroke(self, pitch, number):
+        self.case(9, pitch, more=number.to_bytes(8, 'little'))
+        refusal, kind, point = racksheet.stroke(self.bytes, self.places, pitch, number, UPTO)
+        if refusal:
+            self.lines.append('stroke refused %d' % refusal)
+        elif kind == racksheet.DONE:
+            self.lines.append('stroke done')
+        else:
+            self.lines.append('stroke %s %d %d' % ('lift' if kind == racksheet.LIFT else 'draw', *map(bits, point)))
+
+    def every(self, data, first=0, step=0, short=0, extra=0, pitches=(0, 255)):
+        """Draws a table wide, then draws it and checks the drawing, on placements that tell which were kept; a refused one is asked for strokes too."""
         count = max(0, 2 * (len(data) // 8) - short) + extra
         self.table(data)
         self.filled(count, first, step)
         self.wide()
         self.filled(count, first, step)
-        self.draw()
+        refusal = self.draw()
         self.check()
+        for pitch in pitches if refusal else ():
+            self.stroke(pitch, 0)
 
 
 def plain(links, root=1, tag=100, head=None):
@@ -160,7 +183,8 @@ def worked(t):
             ([[0, 1, 0, 0]], 0, 5), (plain([(2, 2), (0, 0)]), 0, 5),        # head alone with root 1; left and right naming one
             (plain([(2, 3), (0, 0), (0, 0)]), 1, 6)):                       # placements one number short
         t.every(packed(words), 9, 11, short=short)
-        says('check %d' % answer)
+        says('check %d' % answer, back=3 if answer else 1)
+        says('stroke refused %d' % answer if answer else 'check 0')
 
 
 def refusals(t):
@@ -203,6 +227,47 @@ def refusals(t):
     t.every(data, 1, 1, extra=5)
 
 
+def strokes(t):
+    """Strokes by hand: the program's sheet as the paper has it; the ends of numbers, pitches and places; 7 and what comes before it."""
+    t.table(packed(plain([(2, 3), (0, 0), (4, 5), (0, 0), (6, 0), (0, 0)])))
+    t.filled(14)
+    t.draw()
+    at = [None, (0, 0), (1, 3), (1, 1), (1, 2), (3, 2), (2, 4)]
+    for pitch in (10, 1):
+        for i, (parent, child) in enumerate([(1, 2), (1, 3), (3, 4), (3, 5), (5, 6)]):
+            for number, kind, k in ((2 * i, 'lift', parent), (2 * i + 1, 'draw', child)):
+                t.stroke(pitch, number)
+                assert t.lines[-1] == 'stroke %s %d %d' % (kind, *(bits(Fraction(x * pitch, 4)) for x in at[k])), t.lines[-1]
+    past = [2 ** k + d for k in (16, 31, 32, 48, 63) for d in (-1, 0, 1, 9)] + [2 ** 64 - 1 - d for d in (0, 1, 9)]
+    for number in [10, 11, 12, 13] + past:
+        t.stroke(10, number)
+        assert t.lines[-1] == 'stroke done'
+    for number in (0, 9, 10, 2 ** 64 - 1):                                  # 7, at any number
+        t.stroke(0, number)
+        assert t.lines[-1] == 'stroke refused 7'
+    for short in (1, 2, 14):                                                # 6 comes before it
+        t.filled(14 - short)
+        for pitch, number in ((0, 0), (1, 0), (0, 10), (255, 2 ** 64 - 1)):
+            t.stroke(pitch, number)
+            assert t.lines[-1] == 'stroke refused 6'
+    for words in (plain([], 0), plain([(0, 0)]), plain([], 0) + [[1] * 4]): # no line
+        t.table(packed(words))
+        t.filled(2 * len(words), 5, 5)
+        for number in (0, 1, 2, 2 ** 32, 2 ** 64 - 1):
+            t.stroke(4, number)
+            assert t.lines[-1] == 'stroke done'
+        t.stroke(0, 0)
+    top = 65535
+    for links in ([(2, 0), (0, 0)], [(0, 2), (0, 0)]):                      # one line, by any places, good or not
+        t.table(packed(plain(links)))
+        for points in ((0, 0, 1, 1), (top, 0, 0, top), (1, top, top, top), (7, 7, 7, 7), (3, 9, 2, 1)):
+            t.numbers([top, 1, *points])
+            for pitch in (1, 2, 3, 4, 127, 128, 255):
+                t.stroke(pitch, pitch % 2)
+        for number in (0, 1, 2, 3, 2 ** 64 - 1):
+            t.stroke(255, number)
+
+
 def damaged(t, rng):
     """Tables with a word or two written over."""
     for _ in range(260):
@@ -211,7 +276,7 @@ def damaged(t, rng):
         words = [int.from_bytes(data[i:i + 2], 'little') for i in range(0, len(data), 2)]
         for _ in range(rng.randint(1, 2)):
             words[rng.randrange(len(words))] = rng.choice((0, rng.randrange(len(data) // 8 + 1), rng.randrange(65536)))
-        t.every(packed([words]), rng.randrange(65536), rng.randrange(5), short=rng.choice((0, 0, 0, 0, 1)))
+        t.every(packed([words]), rng.randrange(65536), rng.randrange(5), short=rng.choice((0, 0, 0, 0, 1)), pitches=(4,))
 
 
 def verdicts(t, rng):
@@ -306,6 +371,28 @@ def draw_case(rng, low=14, high=40):
     return data, sequence(2 * (len(data) // 8), *SEQUENCE)
 
 
+def stroke_case(rng, low=2, high=9):
+    """A table, placements, a pitch and a number for a stroke."""
+    n = rng.randint(low, high)
+    data, _ = trees.table(rng.choice(trees.shapes(rng))[1](n), rng, extra=rng.randint(0, 2))
+    places = [rng.choice((rng.randrange(9), rng.randrange(65536))) for _ in range(2 * (len(data) // 8) - (rng.random() < 0.1))]
+    pitch = rng.choice((0, rng.randint(1, 9), rng.randrange(256)))
+    number = rng.choice((rng.randrange(2 * n), 2 * n - 3, 2 * n - 2, rng.choice((2 ** 16, 2 ** 32, 2 ** 63)) + rng.randrange(2 * n)))
+    return data, places, pitch, number
+
+
+def random_strokes(t, rng):
+    """All strokes of small trees of every shape, on any placements, and done."""
+    for name, make in trees.shapes(rng):
+        n = rng.randint(2, 7)
+        data, _ = trees.table(make(n), rng, extra=rng.randint(0, 2))
+        t.table(data)
+        t.filled(2 * (len(data) // 8) + rng.randint(0, 3), rng.randrange(65536), rng.randrange(65536))
+        pitch = rng.randint(1, 255)
+        for number in range(2 * n - 1):
+            t.stroke(pitch, number)
+
+
 def random_checks(t, rng):
     for _ in range(400):
         data, places = check_case(rng)
@@ -329,7 +416,7 @@ def level_checks(t, rng):
 
 
 def telling(t):
-    """For each slip of a drawing or a check, a dozen cases that tell it."""
+    """For each slip of a drawing, a check or a stroke, a dozen cases that tell it."""
     for kind, name, *changes in slips.SLIPS:
         if kind == 'table':
             continue
@@ -337,15 +424,15 @@ def telling(t):
         ask, = slips.CALLS[kind]
         wrong, told = slips.reference(changes), 0
         for _ in range(20000):
-            data, places = check_case(rng) if kind == 'check' else draw_case(rng)
-            if slips.answer(wrong, ask, data, places) != slips.answer(racksheet, ask, data, places):
+            data, places, *more = {'check': check_case, 'stroke': stroke_case}.get(kind, draw_case)(rng)
+            if slips.answer(wrong, ask, data, places, *more) != slips.answer(racksheet, ask, data, places, *more):
                 told += 1
                 t.table(data)
-                if kind == 'check':
+                if kind in ('check', 'stroke'):
                     t.numbers(places)
                 else:
                     t.filled(len(places), *SEQUENCE)
-                {'draw': t.draw, 'check': t.check, 'wide': t.wide}[kind]()
+                {'draw': t.draw, 'check': t.check, 'wide': t.wide, 'stroke': t.stroke}[kind](*more)
                 if kind == 'draw':
                     t.check()
             if told == 12:
@@ -371,7 +458,8 @@ def turned(t, rng):
 
 
 def random_trees(t, rng):
-    """Trees of every shape: drawn, checked, then a few placements of the drawing written over and checked again."""
+    """Trees of every shape: drawn, checked, the larger ones asked for strokes; then a few placements of the drawing written over and checked again."""
+    pen = seeded('pen')
     sizes = [rng.randint(2, 13) for _ in range(5)] + [rng.randint(14, 40) for _ in range(12)]
     sizes += [rng.randint(41, 90) for _ in range(3)] + [rng.randint(91, 250) for _ in range(1)]
     for name, make in trees.shapes(rng):
@@ -381,6 +469,8 @@ def random_trees(t, rng):
             tree = make(n)
             data, record = trees.table(tree, rng, extra=min(rng.randint(0, 3), 4096 - n))
             t.every(data, rng.randrange(65536), rng.randrange(65536), extra=rng.randint(0, 3))
+            for number in [pen.randrange(2 * n)] * (n > 30) + [2 * n - 3, 2 * n - 2] * (n > 250):
+                t.stroke(pen.randint(1, 255), number)
             for _ in range(2 if n < 4096 else 1):
                 v, u = rng.randint(1, n), rng.randint(1, n)
                 k, j = 2 * record[v], 2 * record[u]
@@ -396,9 +486,11 @@ def main():
     t = Trials()
     worked(t)
     refusals(t)
+    strokes(t)
     damaged(t, seeded('damaged'))
     verdicts(t, seeded('verdicts'))
     random_checks(t, seeded('checks'))
+    random_strokes(t, seeded('strokes'))
     telling(t)
     random_trees(t, seeded('trees'))
     level_checks(t, seeded('level'))
@@ -408,10 +500,10 @@ def main():
         f.write(b''.join(t.cases))
     with open(os.path.join(crate, 'stdout'), 'w', encoding='ascii', newline='\n') as f:
         f.write('\n'.join(t.lines) + '\n')
-    for name in ('draw', 'check', 'wide'):
+    for name in ('draw', 'check', 'wide', 'stroke'):
         asked = [line.split() for line in t.lines if line.startswith(name + ' ')]
         asked = [words[2] if words[1] == 'refused' else '0' if name == 'wide' else words[1] for words in asked]
-        print(name, len(asked), *('%s:%d' % (a, asked.count(a)) for a in sorted(set(asked), key=int)))
+        print(name, len(asked), *('%s:%d' % (a, asked.count(a)) for a in sorted(set(asked), key=lambda a: (len(a), a))))
     print('width', sum(line.startswith('width ') for line in t.lines))
 
 

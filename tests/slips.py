@@ -3,7 +3,7 @@
 
 A slip is a change of a line or two of the reference program, made in memory; the file itself stays as it is.
 Only cases of the call that the slip is of are counted; a slip of the table has to be told by every call.
-make_trials.py seeks cases that tell each slip of a drawing or a check, and stores what the unchanged program says of them.
+make_trials.py seeks cases that tell each slip of a drawing, a check or a stroke, and stores what the unchanged program says of them.
 """
 import os
 import sys
@@ -14,7 +14,8 @@ crate = os.path.join(os.path.dirname(here), 'crates', 'trials')
 UPTO = int(open(os.path.join(here, 'upto')).read())     # requests 1 to UPTO of document 02 are in force
 
 # The calls of the reference program whose answers a kind of slip changes.
-CALLS = {'draw': ['draw'], 'check': ['check'], 'wide': ['draw_wide'], 'table': ['draw', 'check', 'draw_wide']}
+CALLS = {'draw': ['draw'], 'check': ['check'], 'wide': ['draw_wide'], 'stroke': ['stroke'],
+         'table': ['draw', 'check', 'draw_wide', 'stroke']}
 
 TIE = 'size[L[v]] >= size[R[v]]'
 TIE_BY = 'size[L[v]] > size[R[v]] or size[L[v]] == size[R[v]] and '
@@ -30,6 +31,14 @@ COMPARE = 'kind = compare('
 ON = 'if lo <= column <= hi and b not in line and'
 REACH = 'if len(preorder(roots, left, right)) != len(chain):'
 ORDER = 'if not (a * d - b * c < 0 or level)'
+LINES = '[(b, c) for b in t.chain for c in (t.left[b], t.right[b]) if c != 0]'
+LIFTED, DRAWN_TO = 'strokes.append((LIFT, parent))', 'strokes.append((DRAW, child))'
+FIRST = 'in millimetres as exact fractions)"""\n'
+READ = FIRST + '    t = '
+POINTS = 'at = points(t, placements)\n    strokes = []'
+PAST = 'if number >= len(strokes):'
+NTH = 'kind, b = strokes[number]'
+PEN = '(Fraction(at[b][0] * pitch, 4), Fraction(at[b][1] * pitch, 4))'
 SLIPS = [
     ('draw', 'a child pending at the end is forgotten, left hand', 'put_by_left_edge(pending_left, 1, lowest_row() + 1)', 'pass'),
     ('draw', 'a child pending at the end is forgotten, right hand',
@@ -74,6 +83,38 @@ SLIPS = [
     ('check', 'cross products cut to 32 bits', CROSS, 'to32(' + CROSS + ')', TIMES, 'return to32(u[0] * v[1] - u[1] * v[0])'),
     ('check', 'the products of 24 cut to 32 bits', ORDER, 'if not to32(a * d - b * c) < 0'),
     ('check', '24 with the sides exchanged', ORDER, 'if not a * d - b * c > 0'),
+    ('stroke', 'right before left', LINES, LINES.replace('(t.left[b], t.right[b])', '(t.right[b], t.left[b])')),
+    ('stroke', 'lines in the order of the records', LINES, LINES.replace('in t.chain', 'in sorted(t.chain)')),
+    ('stroke', 'lines in the order of the tree', LINES, LINES.replace('in t.chain', 'in preorder(t.roots, t.left, t.right)')),
+    ('stroke', 'lines by child in chain order', LINES,
+     '[(p[c], c) for p in [{c: b for b in t.chain for c in (t.left[b], t.right[b])}] for c in t.chain if c in p]'),
+    ('stroke', "no child is a line to the head's placement", LINES, LINES.replace(' if c != 0', ''),
+     POINTS, POINTS.replace('points(t, placements)', '{0: (placements[0], placements[1]), **points(t, placements)}')),
+    ('stroke', 'a lift to the child', LIFTED, LIFTED.replace('parent', 'child')),
+    ('stroke', 'a draw to the parent', DRAWN_TO, DRAWN_TO.replace('child', 'parent')),
+    ('stroke', 'from the child to the parent', LIFTED, LIFTED.replace('parent', 'child'), DRAWN_TO, DRAWN_TO.replace('child', 'parent')),
+    ('stroke', 'lift and draw traded', LIFTED, LIFTED.replace('LIFT', 'DRAW'), DRAWN_TO, DRAWN_TO.replace('DRAW', 'LIFT')),
+    ('stroke', 'pitch 0 is taken', 'if pitch == 0:', 'if False:'),
+    ('stroke', '7 before 6', READ, READ + 'Table(refusal=7) if pitch == 0 and read(data, upto).refusal == 0 else '),
+    ('stroke', '7 before all others', READ, READ + 'Table(refusal=7) if pitch == 0 else '),
+    ('stroke', '7 not where the number is past the last stroke', 'if pitch == 0:', 'if pitch == 0 and number < 2 * len(lines_of(t)):'),
+    ('stroke', 'only good placements are taken', PAST, PAST.replace(':', ' or check(data, placements, upto) != 0:')),
+    ('stroke', 'placements in chain order', POINTS,
+     POINTS.replace('points(t, placements)', '{b: (placements[2 * i], placements[2 * i + 1]) for i, b in enumerate(t.chain, 1)}')),
+    ('stroke', 'column and row traded', PEN, PEN.translate({ord('0'): '1', ord('1'): '0'})),
+    ('stroke', 'the column twice', PEN, PEN.replace('[1]', '[0]')),
+    ('stroke', 'halves, not quarters', PEN, PEN.replace(', 4)', ', 2)')),
+    ('stroke', 'whole millimetres', PEN, PEN.replace(', 4)', ' // 4)')),
+    ('stroke', 'the pitch in whole millimetres', PEN, PEN.replace('pitch, 4)', '(pitch // 4))')),
+    ('stroke', 'the product cut to 16 bits', PEN, PEN.replace('pitch', 'pitch % 2 ** 16')),
+    ('stroke', 'the pitch with a sign', PEN, PEN.replace('pitch', '(pitch - pitch // 128 * 256)')),
+    ('stroke', 'done one stroke too early', PAST, PAST.replace(':', ' - 1:')),
+    ('stroke', 'done one stroke too late', PAST, PAST.replace('>=', '>'), NTH, NTH.replace('[number]', '[number % len(strokes)]')),
+    ('stroke', 'past the last stroke the last again', PAST, 'if not strokes:', NTH, NTH.replace('[number]', '[min(number, len(strokes) - 1)]')),
+    ('stroke', 'the number is not halved', PAST, PAST.replace('len(strokes)', 'len(strokes) // 2'), NTH, NTH.replace('number', '2 * number + number % 2')),
+    ('stroke', 'the number cut to 16 bits', FIRST, FIRST + '    number %= 2 ** 16\n'),
+    ('stroke', 'the number cut to 32 bits', FIRST, FIRST + '    number %= 2 ** 32\n'),
+    ('stroke', 'the number with a sign', FIRST, FIRST + '    number -= number // 2 ** 63 * 2 ** 64\n', NTH, NTH.replace('[number]', '[max(number, 0)]')),
     ('table', 'a table of 4,098 records is taken', 'MAX_BYTES = 32776 ', 'MAX_BYTES = 32784 '),
     ('table', 'a node need not be named', 'named[b] != 1', 'named[b] > 1', REACH, 'if False:'),
     ('table', 'a node need not be reached', REACH, 'if False:'),
@@ -103,10 +144,10 @@ def reference(changes):
     return module
 
 
-def answer(program, ask, table, places):
+def answer(program, ask, table, places, *more):
     """What a program says; one that breaks off says so."""
     try:
-        return getattr(program, ask)(table, places, UPTO)
+        return getattr(program, ask)(table, places, *more, UPTO)
     except Exception as e:
         return repr(e)
 
@@ -116,13 +157,13 @@ def words(data):
 
 
 def cases():
-    """Every call on a table in the stored stream: which, the table, the placements before it."""
+    """Every call on a table in the stored stream: which, the table, the placements before it, of a stroke pitch and number."""
     data = open(os.path.join(crate, 'stdin'), 'rb').read()
     right = reference([])
     at, table, places = 0, b'', []
     while at < len(data):
         kind, count, first, step = words(data[at:at + 8])
-        more = data[at + 8:at + 8 + {1: count, 2: 2 * count, 4: 4 * count}.get(kind, 0)]
+        more = data[at + 8:at + 8 + {1: count, 2: 2 * count, 4: 4 * count, 9: 8}.get(kind, 0)]
         at += 8 + len(more)
         if kind == 1:
             table = more
@@ -142,6 +183,8 @@ def cases():
         elif kind == 8:
             yield 'draw_wide', table, list(places)
             places = right.draw_wide(table, places, UPTO)[4]
+        elif kind == 9:
+            yield 'stroke', table, list(places), count, int.from_bytes(more, 'little')
 
 
 def main():

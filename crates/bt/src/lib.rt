@@ -1,14 +1,19 @@
 // The library for other languages (include/bt.h). Each function has the contract of the proved one that it calls.
 use drawing::Drawn;
+use pen::points::PenPoint;
+use pen::stroke;
+use pen::strokes::Stroke;
 use sweep::line::widened;
 use wide::Wide;
 use wide::draw_wide;
 ghost use mathlib.Core.Path.{_≡_};
+ghost use mathlib.Core.List.{[], _∷_};
 ghost use Rattle.drawing.specs.Answer.{drawnOf, placedIn};
+ghost use Rattle.pen.specs.Strokes.{told, strokeOf};
 ghost use Rattle.verdict.specs.Verdict.{Verdict};
 ghost use Rattle.width.specs.Allowed.{allowedWidth};
 ghost use Rattle.wide.specs.Wide.{wideOf, widePlacedIn};
-ghost use Rattle.bt.specs.Packed.{packed, packedSaid};
+ghost use Rattle.bt.specs.Packed.{packed, packedSaid, overwritten};
 
 fn pack_drawn(drawn: Drawn) -> u64
     ensures { λ r. ⌜ r ≡ packed drawn ⌝ }
@@ -52,4 +57,48 @@ pub extern "C" fn bt_allowed_width(nodes: u64) -> u64
     ensures { λ r. ⌜ r ≡ allowedWidth nodes ⌝ }
 {
     width::allowed_width(nodes)
+}
+
+// Writes a point where there is room for it.
+fn put_point(point: PenPoint, lent: &mut [f64])
+    ensures { λ _. ⌜ now (lent .exit) ≡ overwritten (point .x ∷ point .y ∷ []) (now (lent .entry)) ⌝ }
+{
+    if 2 <= lent.len() {
+        lent[0] = point.x;
+        lent[1] = point.y;
+    }
+}
+
+// Writes the point of a stroke, if it has one, and packs what it says.
+fn put_stroke(stroke: Stroke, lent: &mut [f64]) -> u32
+    ensures { λ r. ⌜ r ≡ packedSaid (told stroke .said) ⌝ }
+    ensures { λ _. ⌜ now (lent .exit) ≡ overwritten (told stroke .point) (now (lent .entry)) ⌝ }
+{
+    match stroke {
+        Stroke::Lift(point) => {
+            put_point(point, lent);
+            0x1_0000
+        }
+        Stroke::Draw(point) => {
+            put_point(point, lent);
+            0x2_0000
+        }
+        Stroke::Done => 0,
+        Stroke::Refused(number) => number as u32,
+    }
+}
+
+// The refusal in bits 0 to 15; in bits 16 to 31 0 for done, 1 for a lift, 2 for a draw.
+#[no_mangle]
+pub extern "C" fn bt_stroke(
+    table: &[u8],
+    placements: &[u16],
+    pitch: u8,
+    number: u64,
+    point: &mut [f64],
+) -> u32
+    ensures { λ r. ⌜ r ≡ packedSaid (strokeOf (now (table .entry)) (now (placements .entry)) pitch number .said) ⌝ }
+    ensures { λ _. ⌜ now (point .exit) ≡ overwritten (strokeOf (now (table .entry)) (now (placements .entry)) pitch number .point) (now (point .entry)) ⌝ }
+{
+    put_stroke(stroke(table, placements, pitch, number), point)
 }

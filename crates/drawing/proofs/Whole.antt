@@ -69,10 +69,6 @@ read-accepted t places r list sizes d e = refusal-none t places .0 (sym (d .refu
 pub chained-root : (t : List ℕ) (k : ℕ) → k ≡ rootOf t → Chained t (rootOf t) → Chained t k
 chained-root t k e c = rw e c
 
--- Some nodes: the root is one of them.
-pub some-root : (t : List ℕ) → fault t ≡ 0 → (n : ℕ) → n ≡ length (chain t) → (n ≡ 0 → ⊥) → Chained t (rootOf t)
-some-root t ok n e h = ⊎-elim (λ z. absurd (h (e ∙ ap length (z .0)))) (λ c. c) (root t ok)
-
 -- No nodes: the empty tree.
 pub no-tree : (t : List ℕ) → fault t ≡ 0 → length (chain t) ≡ 0 → tree t ≡ none
 no-tree t ok e = ap (treeAt t) (⊎-elim (λ z. z .1) (λ c. absurd (omega (arith, length-within (rootOf t ∷ []) (chain t) (within-one (rootOf t) (chain t) c)))) (root t ok)) ∙ tree-none t

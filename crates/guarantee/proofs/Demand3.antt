@@ -21,7 +21,7 @@ use Rattle.drawing.specs.Answer.{store, planOf, drawnOf}
 use Rattle.drawing.specs.declared.Drawn.{Drawn}
 use Rattle.drawing.proofs.StoredPoints.{times, store-length, store-point}
 use Rattle.drawing.proofs.Answered.{Accepted, accepted, drawn-refusal}
-use Rattle.verdict.specs.Lines.{pointOf}
+use Rattle.verdict.specs.Points.{pointOf}
 use Rattle.verdict.specs.Conditions.{SamePoint, NotLower, Touching, OutOfOrder}
 use Rattle.verdict.specs.Verdict.{FirstOf, conditions, Verdict}
 use Rattle.width.specs.Allowed.{floorLog2, allowedWidth}

@@ -4,12 +4,11 @@ use mathlib.Core.Path.{_≡_, sym, subst}
 use mathlib.Core.List.{List}
 use Prim.Native.Nat.{ℕ}
 use lib.Dec.{T}
-use Rattle.table.specs.Table.{Side, left, right, linkOf, leftOf, rightOf, Chained}
+use Rattle.table.specs.Table.{Side, left, right, linkOf, leftOf, rightOf, Chained, Line}
 use Rattle.table.specs.Tree.{Tree, node, treeAt, tree}
 use Rattle.table.specs.Refusal.{fault}
 use Rattle.table.proofs.Accepted.{tree-unfolds, down}
 use Rattle.layout.proofs.Records.{IsNode, node-here, node-left, node-right, Root, root-here, Child, left-child, right-child, child-left, child-right}
-use Rattle.verdict.specs.Lines.{Line}
 use Rattle.verdict.proofs.Ends.{child-chained}
 
 -- S is a subtree of a tree.

@@ -1,5 +1,5 @@
 -- The laws of an accepted table, one whose bytes have no fault: all that later crates use of it. Rests on Lists, Chain and Causes.
-use mathlib.Core.Path.{_≡_, refl, sym, ap, subst}
+use mathlib.Core.Path.{_≡_, refl, sym, ap, _∙_, subst}
 use mathlib.Core.Logic.{_↔_, _⊎_, inl, inr, ⊎-elim, ⊎-map}
 use mathlib.Core.Bool.{Bool, true, false, not, cond, _&&_, _||_}
 use mathlib.Core.List.{List, []}
@@ -89,6 +89,9 @@ module _ (t : List ℕ) (ok : fault t ≡ 0) where
   pub links-chained : (k : ℕ) (s : Side) → Chained t k → (linkOf t s k ≡ 0) ⊎ Chained t (linkOf t s k)
   links-chained = sound-links t (fault-none .3)
 
+  pub link-within : (k : ℕ) (s : Side) → Chained t k → linkOf t s k < records t
+  link-within k s m = ⊎-elim (λ (e : linkOf t s k ≡ 0). omega (arith, records-bounds)) (λ (c : Chained t (linkOf t s k)). chain-within (linkOf t s k) c .1) (links-chained k s m)
+
   abbrev OneTree : Type 0
   OneTree = (not (member (rootOf t) (chain t)) ≡ false) × (not (eqb (named t (rootOf t)) 0) ≡ false) × (any (uneven t) (chain t) ≡ false) × (any (lost t) (chain t) ≡ false)
 
@@ -103,6 +106,10 @@ module _ (t : List ℕ) (ok : fault t ≡ 0) where
 
   pub root : Empty t ⊎ Chained t (rootOf t)
   root = ⊎-map (λ (e : Empty t). e) (λ (r : OneTree). passes (member (rootOf t) (chain t)) (r .0)) one-tree
+
+  -- Some nodes: the root is one of them.
+  pub some-root : (n : ℕ) → n ≡ length (chain t) → (n ≡ 0 → ⊥) → Chained t (rootOf t)
+  some-root n e h = ⊎-elim (λ (z : Empty t). absurd (h (e ∙ ap length (z .0)))) (λ (c : Chained t (rootOf t)). c) root
 
   some : (k : ℕ) → Chained t k → OneTree
   some k h = ⊎-elim (λ (e : Empty t). absurd (unfold member in rw (e .0) at h)) (λ (r : OneTree). r) one-tree

@@ -1,5 +1,5 @@
 -- The laws of tables, in the order in which they rest on each other; those of what a call says (Saying) and of a word written (Written), which rest on none; then
--- those that the steps of a reading need.
+-- those that the steps of a reading need, and among them those of a chain that is listed (Nodes) and of the children of its nodes (Children).
 pub mod Lists
 pub mod Chain
 pub mod Causes
@@ -10,9 +10,11 @@ pub mod Written
 pub mod Form
 pub mod Walking
 pub mod Scan
+pub mod Nodes
 pub mod Tally
 pub mod Zeros
 pub mod Order
+pub mod Children
 pub mod Reached
 pub mod Sizes
 pub mod Rooting

@@ -1,6 +1,6 @@
 -- Going through a listed chain: where its records are, and when none of them passes a test. Rests on Lists and Causes.
 use mathlib.Core.Path.{_≡_, refl, sym, ap, _∙_, subst}
-use mathlib.Core.Logic.{inl, inr, ⊎-elim}
+use mathlib.Core.Logic.{_≢_, inl, inr, ⊎-elim}
 use mathlib.Core.Bool.{Bool, true, false, not, cond, _&&_, _||_, or-true, Bool·not-not}
 use mathlib.Core.List.{List, [], _∷_}
 use Prim.Native.Nat.{ℕ, zero, suc, _<_}
@@ -9,11 +9,11 @@ use lib.Dec.{T, eqb}
 use lib.ListN.{length, getD, take}
 use lib.Seq.{getD-take}
 use borrow.Author.Tests.{lt-leb}
-use Rattle.table.specs.Lists.{any, member}
+use Rattle.table.specs.Lists.{any, member, repeats}
 use Rattle.table.specs.Table.{records, chain}
 use Rattle.table.specs.Refusal.{beyond, stray}
 use Rattle.table.specs.inner.Steps.{Listed, Marked}
-use Rattle.table.proofs.Lists.{T-true, member-cons, any-false}
+use Rattle.table.proofs.Lists.{T-true, T-false, or-false, member-cons, any-false, Distinct}
 use Rattle.table.proofs.Causes.{sound-within}
 
 -- What stands at a place is a member, and a member stands at a place.
@@ -26,6 +26,14 @@ pub place : (k : ℕ) (ks : List ℕ) → T (member k ks) → (i : ℕ) × (i < 
 place k [] h = absurd (unfold member in h)
 place k (n ∷ ns) h =
     ⊎-elim (λ (e : k ≡ n). (0, omega arith, sym e)) (λ (m : T (member k ns)). let p = place k ns m in (suc (p .0), omega (arith, p .1), p .2)) (member-cons k n ns .0 h)
+
+-- A list without repeats has different numbers at different places.
+pub places-differ : (ks : List ℕ) (i j : ℕ) → Distinct ks → i < j → j < length ks → getD ks i 0 ≢ getD ks j 0
+unfolding repeats
+places-differ [] i j d l m e = omega arith
+places-differ (k ∷ ks) i zero d l m e = omega arith
+places-differ (k ∷ ks) zero (suc j) d l m e = T-false (member k ks) .1 (or-false (member k ks) (repeats ks) .0 d .0) (subst (λ n. T (member n ks)) (sym e) (member-at ks j (omega arith)))
+places-differ (k ∷ ks) (suc i) (suc j) d l m e = places-differ ks i j (or-false (member k ks) (repeats ks) .0 d .1) (omega arith) (omega arith) e
 
 -- The same of the first n numbers of a longer list.
 module _ (list : List ℕ) {ks : List ℕ} {n : ℕ} (e : n ≡ length ks) (l : take n list ≡ ks) where

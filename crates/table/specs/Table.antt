@@ -1,4 +1,6 @@
--- Words, records and the chain of a table of bytes (document 01, "The rack table").
+-- Words, records, the chain and the lines of a table of bytes (document 01, "The rack table", "Words of the sheet").
+use mathlib.Core.Path.{_≡_}
+use mathlib.Core.Logic.{_≢_}
 use mathlib.Core.List.{List, [], _∷_}
 use Prim.Native.Nat.{ℕ, zero, suc, _+_, _*_, _/_}
 use lib.Dec.{T}
@@ -52,3 +54,9 @@ chain t = follow (records t) t (nextOf t 0)
 -- "over chained boxes": k is a record of the chain
 abbrev pub Chained : List ℕ → ℕ → Type 0
 Chained t k = T (member k (chain t))
+
+-- "A line is the straight segment from a box to one of its children": from the chained node k to its child c on the side s
+pub record Line (t : List ℕ) (k : ℕ) (s : Side) (c : ℕ) : Type 0 where
+  pub chained : Chained t k
+  pub links : linkOf t s k ≡ c
+  pub child : c ≢ 0

@@ -1,7 +1,14 @@
-// The words of a table's records (specs/Table).
+// The words of a table's records (specs/Table), and the numbers of records as indices.
 ghost use mathlib.Core.Path.{_≡_};
 ghost use Prim.Native.Nat.{_<_};
 ghost use Rattle.table.specs.Table.{records, word as wordOf, nextOf, leftOf, rightOf, tagOf};
+
+// A record's number, as the numbers that indices are.
+pub fn index(k: u16) -> usize
+    ensures { λ r. ⌜ r ≡ k ⌝ }
+{
+    k as usize
+}
 
 // A byte, as the numbers that indices are.
 fn from_byte(byte: u8) -> usize

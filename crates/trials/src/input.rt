@@ -1,4 +1,4 @@
-// What a case brings: its head, the bytes of a table, the numbers of placements.
+// What a case brings: its head, the bytes of a table, the numbers of placements, the number of a stroke.
 ghost use Prim.Native.Nat.{_+_, _*_, _<_, _≤_};
 ghost use lib.ListN.{length};
 
@@ -45,6 +45,22 @@ pub fn next_head() -> Head
     let mut bytes = [0u8; 8];
     io::read_full(0, &mut bytes);
     head_of(&bytes)
+}
+
+fn number_of(bytes: &[u8]) -> u64
+    requires { ⌜ 7 < length (now bytes) ⌝ }
+{
+    word(bytes, 0) as u64
+        + 0x1_0000 * (word(bytes, 2) as u64)
+        + 0x1_0000_0000 * (word(bytes, 4) as u64)
+        + 0x1_0000_0000_0000 * (word(bytes, 6) as u64)
+}
+
+// The next number of 64 bits, in four words.
+pub fn next_number() -> u64 {
+    let mut bytes = [0u8; 8];
+    io::read_full(0, &mut bytes);
+    number_of(&bytes)
 }
 
 pub fn table_bytes(table: &mut [u8], count: usize) -> usize

@@ -1,4 +1,4 @@
-// Runs the drawer, the check, the allowed width and the wide drawer on the cases of standard input, and prints every answer.
+// Runs the drawer, the check, the allowed width, the wide drawer and the pen on the cases of standard input, and prints every answer.
 // What it must print is made by tests/make_trials.py from the reference program. Proved safe; what it prints is tested.
 //
 // A case is a head of four words (16 bits, low byte first) named kind, count, first, step, and what the kind says:
@@ -11,6 +11,8 @@
 //   6 check: prints 'check' and the number
 //   7 width: prints 'width' and the allowed width of count + 2^16 first + 2^32 step
 //   8 wide: prints 'wide', nodes, width and height, or 'wide refused' and the refusal, and the placements as in 5
+//   9 stroke: four words follow, the stroke's number, low word first; the pitch is count mod 256. Prints 'stroke lift' or
+//     'stroke draw' and the bit patterns of the point's two floats, 'stroke done', or 'stroke refused' and the refusal
 // The cases end with the input, or with a head of any other kind.
 mod input;
 mod text;
@@ -20,6 +22,7 @@ use crate::input::changed;
 use crate::input::filled;
 use crate::input::listed;
 use crate::input::next_head;
+use crate::input::next_number;
 use crate::input::table_bytes;
 use crate::text::number;
 use crate::text::put;
@@ -27,8 +30,10 @@ use crate::text::put_all;
 use crate::text::put_field;
 use crate::text::put_line;
 use crate::text::put_places;
+use crate::text::put_point;
 use drawing::Drawn;
 use drawing::Plan;
+use pen::strokes::Stroke;
 use wide::Wide;
 ghost use Prim.Native.Nat.{_<_, _≤_};
 ghost use lib.ListN.{length};
@@ -100,6 +105,24 @@ fn run_width(h: Head, out: &mut [u8], used: usize) -> usize
     put_line(out, used, b"width", width::allowed_width(n))
 }
 
+fn put_stroke(out: &mut [u8], used: usize, answer: Stroke) -> usize
+    requires { ⌜ 0 < length (now out) ⌝ }
+{
+    match answer {
+        Stroke::Lift(point) => put_point(out, used, b"stroke lift", point),
+        Stroke::Draw(point) => put_point(out, used, b"stroke draw", point),
+        Stroke::Done => put_all(out, used, b"stroke done\n"),
+        Stroke::Refused(refusal) => put_line(out, used, b"stroke refused", number(refusal)),
+    }
+}
+
+fn run_stroke(table: &[u8], places: &[u16], pitch: u8, out: &mut [u8], used: usize) -> usize
+    requires { ⌜ 0 < length (now out) ⌝ }
+{
+    let answer = pen::stroke(table, places, pitch, next_number());
+    put_stroke(out, used, answer)
+}
+
 // A case that prints.
 fn ask(table: &[u8], places: &mut [u16], out: &mut [u8], used: usize, h: Head) -> usize
     requires { ⌜ 0 < length (now out) ⌝ }
@@ -115,6 +138,9 @@ fn ask(table: &[u8], places: &mut [u16], out: &mut [u8], used: usize, h: Head) -
     }
     if h.kind == 8 {
         return run_wide(table, places, out, used);
+    }
+    if h.kind == 9 {
+        return run_stroke(table, places, (h.count % 256) as u8, out, used);
     }
     run_width(h, out, used)
 }
@@ -148,7 +174,7 @@ fn step(table: &mut [u8], places: &mut [u16], out: &mut [u8], s: State) -> State
     ensures { λ r. ⌜ r .places ≤ length (now (places .entry)) ⌝ }
 {
     let h = next_head();
-    if h.kind == 0 || 8 < h.kind {
+    if h.kind == 0 || 9 < h.kind {
         return State {
             bytes: s.bytes,
             places: s.places,

@@ -1,4 +1,5 @@
 // Text through one buffer, written out where it is full.
+use pen::points::PenPoint;
 ghost use Prim.Native.Nat.{_<_, _≤_};
 ghost use lib.ListN.{length};
 
@@ -57,6 +58,24 @@ pub fn put_line(out: &mut [u8], used: usize, name: &[u8], n: u64) -> usize
     let named = put_all(out, used, name);
     let at = put_field(out, named, n);
     put(out, at, b'\n')
+}
+
+// The bit pattern of a float; u64::MAX, the pattern of a NaN, where it is one.
+fn bits(x: f64) -> u64 {
+    if x == x {
+        return f64::to_bits(x);
+    }
+    u64::MAX
+}
+
+// A word, the bits of a pen point and the end of the line.
+pub fn put_point(out: &mut [u8], used: usize, name: &[u8], point: PenPoint) -> usize
+    requires { ⌜ 0 < length (now out) ⌝ }
+{
+    let named = put_all(out, used, name);
+    let at = put_field(out, named, bits(point.x));
+    let placed = put_field(out, at, bits(point.y));
+    put(out, placed, b'\n')
 }
 
 fn put_numbers(out: &mut [u8], used: usize, numbers: &[u16]) -> usize

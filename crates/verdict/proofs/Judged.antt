@@ -13,9 +13,10 @@ use Rattle.sweep.specs.declared.meeting.Meeting.{Meeting}
 use Rattle.sweep.specs.declared.meeting.Meeting.the-variants.{Clear, Clashing}
 use Rattle.sweep.specs.inner.Line.{startOf, endOf, last}
 use Rattle.sweep.specs.inner.Meetings.{Met, grade, Worst}
+use Rattle.table.specs.inner.Reading.{Nodes}
 use Rattle.verdict.specs.Conditions.{SamePoint, NotLower, OutOfOrder}
 use Rattle.verdict.specs.Verdict.{numbered, FirstOf, conditions}
-use Rattle.verdict.specs.inner.Steps.{Nodes, LinesOf, Rises, lineConditions}
+use Rattle.verdict.specs.inner.Steps.{LinesOf, Rises, lineConditions}
 use Rattle.verdict.proofs.Places.{same-ends, rising, clashing}
 
 -- ---- the conditions of lines

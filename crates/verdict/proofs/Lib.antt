@@ -4,7 +4,6 @@ pub mod OffChain
 pub mod Ends
 pub mod Clashes
 pub mod Decide
-pub mod Nodes
 pub mod Parent
 pub mod Turning
 pub mod Places

@@ -4,10 +4,9 @@ use mathlib.Core.Logic.{_↔_, _⊎_, inl, inr, ⊎-map}
 use mathlib.Core.List.{List}
 use Prim.Native.Nat.{ℕ}
 use lib.ListN.{length}
-use Rattle.table.specs.Table.{Side, Chained}
+use Rattle.table.specs.Table.{Side, Chained, Line}
 use Rattle.table.specs.OffChain.{OffChain}
 use Rattle.table.proofs.OffChain.{chain-same, link-same, refusal-same, off-chain-sym}
-use Rattle.verdict.specs.Lines.{Line}
 use Rattle.verdict.specs.Conditions.{SamePoint, NotLower, LinesTouch, NodeOnLine, Touching, OutOfOrder}
 use Rattle.verdict.specs.Verdict.{Verdict}
 

@@ -3,14 +3,7 @@ use segment::Point;
 ghost use mathlib.Core.Path.{_≡_};
 ghost use Prim.Native.Nat.{_+_, _*_, _<_};
 ghost use lib.ListN.{length};
-ghost use Rattle.verdict.specs.Lines.{pointOf};
-
-// A record's number, as the numbers that indices are.
-pub fn index(k: u16) -> usize
-    ensures { λ r. ⌜ r ≡ k ⌝ }
-{
-    k as usize
-}
+ghost use Rattle.verdict.specs.Points.{pointOf};
 
 // The point of node k.
 pub fn point(placements: &[u16], k: usize) -> Point

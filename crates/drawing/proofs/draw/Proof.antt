@@ -1,7 +1,8 @@
 -- `draw` meets its contract: the drawer's whole answer, for all bytes and placements.
 use mathlib.Core.Path.{sym, _∙_}
 use borrow.Author.Needs.{needs}
-use Rattle.drawing.proofs.Whole.{sizes-listed, read-accepted, some-root, nothing-drawn, refusal-drawn, plan-answered}
+use Rattle.table.proofs.Accepted.{some-root}
+use Rattle.drawing.proofs.Whole.{sizes-listed, read-accepted, nothing-drawn, refusal-drawn, plan-answered}
 use Rattle.drawing.proofs.draw.Statement.{statement}
 use Rattle.drawing.proofs.draw.Tie as tie
 

@@ -1,12 +1,12 @@
--- What a reading of a table promises of its answer and of the two lists that it is lent.
+-- What a reading of a table promises of its answer and of the two lists that it is lent, and what the calls that read a table keep of it.
 use mathlib.Core.Path.{_≡_}
 use mathlib.Core.List.{List}
-use Prim.Native.Nat.{ℕ}
+use Prim.Native.Nat.{ℕ, _≤_}
 use lib.ListN.{length, getD, take}
 use Rattle.table.specs.declared.Reading.{Reading}
 use Rattle.table.specs.Table.{chain, Chained}
 use Rattle.table.specs.Tree.{size, treeAt}
-use Rattle.table.specs.Refusal.{refusal}
+use Rattle.table.specs.Refusal.{fault, refusal}
 use Rattle.table.specs.inner.Steps.{Ordered}
 
 -- n is the number of nodes, the first n numbers of list are the chain, and those of order the nodes, breadth first.
@@ -31,3 +31,10 @@ pub record Read (t : List ℕ) (n : ℕ) (list sizes : List ℕ) : Type 0 where
 pub record ReadOf (t : List ℕ) (places : ℕ) (r : Reading) (list sizes : List ℕ) : Type 0 where
   pub refusal : r .refusal ≡ refusal t places
   pub accepted : r .refusal ≡ 0 → Read t (r .nodes) list sizes
+
+-- The table is accepted, and the first n numbers of list are its chain.
+pub record Nodes (t : List ℕ) (n : ℕ) (list : List ℕ) : Type 0 where
+  pub accepted : fault t ≡ 0
+  pub nodes : n ≡ length (chain t)
+  pub long : n ≤ length list
+  pub listed : take n list ≡ chain t

@@ -7,26 +7,18 @@ use Prim.Native.Nat.{ℕ, _+_, _*_, _≤_, _<_}
 use lib.Dec.{T, eqb}
 use lib.IntN.{pos}
 use lib.Signed.{ltZ}
-use lib.ListN.{length, getD, take}
+use lib.ListN.{length, getD}
 use Rattle.segment.specs.declared.Point.{Point}
 use Rattle.segment.specs.Segment.{Clash, cross}
 use Rattle.sort.specs.inner.Order.{Below, Pairs}
 use Rattle.sweep.specs.inner.Line.{startOf, endOf, first, last}
-use Rattle.table.specs.Table.{Side, records, leftOf, rightOf, linkOf, rootOf, chain}
-use Rattle.table.specs.Refusal.{fault}
-use Rattle.verdict.specs.Lines.{pointOf, Line}
+use Rattle.table.specs.Table.{Side, records, leftOf, rightOf, linkOf, rootOf, Line}
+use Rattle.verdict.specs.Points.{pointOf}
 use Rattle.verdict.specs.Verdict.{Condition, numbered}
 
 -- The point of the node at place i of a list of nodes.
 abbrev pub nodeAt : List ℕ → List ℕ → ℕ → Point
 nodeAt p nodes i = pointOf p (getD nodes i 0)
-
--- The table is accepted, and the first n numbers of list are its chain.
-pub record Nodes (t : List ℕ) (n : ℕ) (list : List ℕ) : Type 0 where
-  pub accepted : fault t ≡ 0
-  pub nodes : n ≡ length (chain t)
-  pub long : n ≤ length list
-  pub listed : take n list ≡ chain t
 
 -- up has the parent of each child, and 0 for the root.
 pub record Parents (t up : List ℕ) : Type 0 where

@@ -1,7 +1,8 @@
 -- `draw_wide` meets its contract: the whole answer, for all bytes and placements.
 use mathlib.Core.Path.{sym, _∙_}
 use borrow.Author.Needs.{needs}
-use Rattle.drawing.proofs.Whole.{sizes-listed, read-accepted, some-root}
+use Rattle.table.proofs.Accepted.{some-root}
+use Rattle.drawing.proofs.Whole.{sizes-listed, read-accepted}
 use Rattle.wide.proofs.Answered.{wide-refused, wide-nothing, wide-answered}
 use Rattle.wide.proofs.draw_wide.Statement.{statement}
 use Rattle.wide.proofs.draw_wide.Tie as tie

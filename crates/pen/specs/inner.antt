@@ -1,0 +1,2 @@
+-- For the contracts between functions only.
+pub mod Steps
