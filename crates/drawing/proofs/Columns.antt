@@ -7,7 +7,7 @@ use lib.Dec.{T}
 use Rattle.table.specs.Table.{Side, left, right}
 use Rattle.layout.specs.Spine.{opposite}
 use Rattle.layout.specs.inner.Held.{inwards, far, Inside}
-use Rattle.measure.specs.inner.Forked.{sideOf}
+use Rattle.measure.specs.Chosen.{sideOf}
 
 pub inside-edge : (a : Side) (e n : ℕ) → Inside 65536 a e (suc n) → e < 65536
 inside-edge left e n c = omega arith
@@ -30,10 +30,11 @@ over-back right e w c = omega arith
 
 -- ---- code has a side as a bool
 
-pub side-not : (b : Bool) → sideOf (not b) ≡ opposite (sideOf b)
-unfolding opposite
-side-not true = refl
-side-not false = refl
+pub side-same : (b d : Bool) → sideOf b ≡ sideOf d → b ≡ d
+side-same true true e = refl
+side-same false false e = refl
+side-same true false e = cc
+side-same false true e = cc
 
 pub inwards-right : (b : Bool) (e k : ℕ) → b ≡ true → Inside 65536 (sideOf b) e (k + 1) → (k ≤ e) × ((e - k ≡ inwards (sideOf b) e k) × (e - k < 65536))
 unfolding inwards

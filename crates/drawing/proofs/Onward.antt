@@ -14,11 +14,12 @@ use Rattle.layout.specs.Layout.{Layout}
 use Rattle.layout.specs.Spine.{SpineNode, hangs, Role, knee, ordinary, switch, opposite, seen, runRole, roleAfter, handAfter}
 use Rattle.layout.specs.Drawing.{Rest, join}
 use Rattle.layout.specs.inner.Entries.{withPoint}
-use Rattle.layout.specs.inner.Held.{inwards, hungOn, heightOn, widthOn, roleNext, far, lay, bottom, Inside, Rooms, knee-room, ordinary-room, switch-room}
+use Rattle.layout.specs.inner.Held.{inwards, hungOn, heightOn, widthOn, roleNext, far, lay, bottom, Inside, GoesOn, Rooms, knee-room, ordinary-room, switch-room}
 use Rattle.layout.proofs.Spines.{spineTree}
 use Rattle.layout.proofs.Sides.{shape-hung, hung-none, height-none, width-none}
 use Rattle.layout.proofs.Held.{inside-less}
-use Rattle.measure.specs.inner.Prepared.{codeOf, Prepared, Along, no-spine, onward}
+use Rattle.measure.specs.Chosen.{codeOf}
+use Rattle.measure.specs.inner.Prepared.{Prepared, Along, no-spine, onward}
 use Rattle.drawing.specs.Answer.{store}
 use Rattle.measure.specs.inner.Roles.{isSwitch}
 use Rattle.drawing.specs.inner.Placing.{kept, finish, finished, Ready}
@@ -206,14 +207,17 @@ module _ {B W : ℕ} {a s : Side} {e f k : ℕ} {S : Tree} {ls : List SpineNode}
   pub after-ordinary-room : Rooms B W a e f ordinary (hangs k s S ∷ ls) → Rooms B W a e f (roleNext a ordinary ls) ls
   after-ordinary-room (ordinary-room i n) = n
 
+  pub goes-on : Rooms B W a e f switch (hangs k s S ∷ ls) → GoesOn ls
+  goes-on (switch-room g w i x n) = g
+
   pub at-switch-width : Rooms B W a e f switch (hangs k s S ∷ ls) → widthOn a S ≤ W
-  at-switch-width (switch-room w i x n) = w
+  at-switch-width (switch-room g w i x n) = w
 
   pub at-switch-room : Rooms B W a e f switch (hangs k s S ∷ ls) → Inside B a e (W + 3)
-  at-switch-room (switch-room w i x n) = i
+  at-switch-room (switch-room g w i x n) = i
 
   pub after-switch-room : Rooms B W a e f switch (hangs k s S ∷ ls) → Rooms B W (opposite a) f e (roleNext (opposite a) switch ls) ls
-  after-switch-room (switch-room w i x n) = n
+  after-switch-room (switch-room g w i x n) = n
 
 module _ (roles widest : List ℕ) (W : ℕ) (a : Side) (e H r k : ℕ) (s : Side) (S Q : Tree) (ls : List SpineNode) where
   pub ready-far : far a s ≡ true → Ready roles widest W a e knee H r Q (hangs k s S ∷ ls) → Ready roles widest W a e (roleNext a knee ls) (max H r + heightOn a S) (max H r + heightOn a S + 1) none ls

@@ -8,9 +8,9 @@ use Rattle.table.specs.Table.{Side, left, right}
 use Rattle.table.specs.Lists.{count}
 use Rattle.table.specs.Tree.{Tree, size, nodes}
 use Rattle.layout.specs.Layout.{Layout, blank, placed, width}
-use Rattle.layout.specs.Spine.{SpineNode, hangs, Role, knee, ordinary, switch}
+use Rattle.layout.specs.Spine.{SpineNode, hangs, Role, knee, ordinary, switch, facing}
 use Rattle.layout.specs.Drawing.{join, draw}
-use Rattle.layout.specs.inner.Held.{facing, hungOn, widthOn, far, lay}
+use Rattle.layout.specs.inner.Held.{hungOn, widthOn, far, lay}
 use Rattle.layout.proofs.Rows.{shape, size-facing}
 use Rattle.layout.proofs.Spines.{over, spineTree, shape-join}
 use Rattle.layout.proofs.Theorem.{promise}

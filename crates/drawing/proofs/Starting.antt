@@ -13,21 +13,24 @@ use Rattle.table.specs.Tree.{Tree, none, node, size, nodes, treeAt}
 use Rattle.table.specs.Refusal.{fault}
 use Rattle.table.proofs.Accepted.{tree-none, tree-unfolds}
 use Rattle.layout.specs.Layout.{Layout}
-use Rattle.layout.specs.Spine.{SpineNode, Role, knee}
+use Rattle.layout.specs.Spine.{SpineNode, Role, knee, facing}
 use Rattle.layout.specs.Drawing.{draw}
-use Rattle.layout.specs.inner.Held.{facing, inwards, hungOn, heightOn, widthOn, widestOn, spineOn, lay, bottom, Inside}
+use Rattle.layout.specs.inner.Held.{inwards, hungOn, heightOn, widthOn, widestOn, spineOn, lay, bottom, Inside}
 use Rattle.layout.proofs.Sides.{hung-none, height-none, width-none}
 use Rattle.layout.proofs.Held.{inside-less, hung-inside, rooms-law, inside-fits, hung-law, bottom-law, frame-from}
 use Rattle.measure.specs.inner.Sized.{Named}
-use Rattle.measure.specs.inner.Forked.{sideOf}
+use Rattle.measure.specs.Chosen.{sideOf, codeOf}
 use Rattle.measure.specs.inner.Prepared.{Prepared, Along, no-spine, a-spine}
+use Rattle.measure.proofs.Choices.{code-small}
 use Rattle.measure.proofs.Spines.{chained}
 use Rattle.measure.proofs.Frames.{once}
 use Rattle.drawing.specs.Answer.{store}
 use Rattle.drawing.specs.declared.place.Walk.{Walk}
 use Rattle.drawing.specs.inner.Placing.{Hanging, Hung, kept, finish, finished, handAt, spineFrom, Going, unplaced, Stepped, rowBelow, remaining}
 use Rattle.drawing.proofs.Shapes.{width-node}
+use Rattle.drawing.proofs.Columns.{side-same}
 use Rattle.drawing.proofs.Onward.{finished-none}
+use Rattle.drawing.proofs.Walking.{first-role}
 
 -- ---- nodes and no nodes
 
@@ -96,9 +99,9 @@ module _ (t roles widest : List ℕ) (ok : fault t ≡ 0) (b : Bool) (root edge 
   abbrev s : Side
   s = sideOf b
 
-  -- The walk at the first node, a knee.
-  abbrev pub start : Walk
-  start = record { at = root; row = top; lowest = top; pending = 0; right = b; edge = edge; widest = getD widest root 0; mirrored = b }
+  -- The walk at the first node, a knee of the hand r.
+  abbrev pub start : Bool → Walk
+  start r = record { at = root; row = top; lowest = top; pending = 0; right = r; edge = edge; widest = getD widest root 0; mirrored = b }
 
   root-chained : Chained t root
   root-chained = named-node t root (g .named) node-there
@@ -115,30 +118,49 @@ module _ (t roles widest : List ℕ) (ok : fault t ≡ 0) (b : Bool) (root edge 
   inside : Inside 65536 s edge (widthOn s (treeAt t root))
   inside = inside-less 65536 s edge (omega arith) (g .columns)
 
-  pub going-start : Going t roles widest knee start
+  along : Along roles widest s knee (spineOn s (treeAt t root))
+  along = rw tree (spine-along (rw tree at (g .prepared)))
+
+  root-role : getD roles root 0 ≡ codeOf s knee
+  root-role = first-role t roles widest ok s s knee root root-chained along
+
+  pub root-below : getD roles root 0 < 6
+  root-below = omega (arith, root-role, code-small s knee)
+
+  -- Its role is kept, and so its hand is the drawing's side.
+  hand-start : (r : Bool) → ((a : Side) (o : Role) → getD roles root 0 ≡ codeOf a o → sideOf r ≡ a) → b ≡ r
+  hand-start r h = side-same b r (sym (h s knee root-role))
+
+  going-here : Going t roles widest knee (start b)
   unfolding nodes count
-  going-start = record {
+  going-here = record {
     named = g .named;
     named-pending = inl refl;
     once = λ i. rw (tree-none t) (omega (arith, once t ok root (g .named) i));
     ready = rw (tree-none t) (record {
       prepared = no-spine;
-      along = rw tree (spine-along (rw tree at (g .prepared)));
+      along = along;
       spare = inside-less 65536 s edge (omega (arith, width-none s, width-node s (treeAt t root) some)) inside;
       rooms = rw widest-law (rooms-law 65536 s edge _ top (treeAt t root) (frame-from s edge _) inside);
       rows = rw (height-none s) (omega (arith, bottom-law s top (treeAt t root) some, g .rows));
     });
   }
 
-  pub remaining-start : (p : List ℕ) → remaining t knee start p ≡ store (hungOn s edge top (treeAt t root)) p
+  remaining-start : (p : List ℕ) → remaining t knee (start b) p ≡ store (hungOn s edge top (treeAt t root)) p
   unfolding widthOn
   remaining-start p = rw (tree-none t) (finished-none (getD widest root 0) s edge knee top top _ p ∙ ap (λ (L : Layout). store L p) (sym (hung-law s edge _ top (treeAt t root) (rw widest-law (frame-from s edge _)) (inside-fits 65536 s edge (draw (facing s (treeAt t root))) inside))))
 
-  pub bottom-start : rowBelow t knee start ≡ top + heightOn s (treeAt t root)
+  bottom-start : rowBelow t knee (start b) ≡ top + heightOn s (treeAt t root)
   bottom-start = rw (tree-none t, height-none s) (bottom-law s top (treeAt t root) some)
 
-  pub hung-start : (p p′ : List ℕ) (below : ℕ) → (below ≡ rowBelow t knee start) × (p′ ≡ remaining t knee start p) → Hung t s root edge top p below p′
-  hung-start p p′ below e = record { ends = e .0 ∙ bottom-start; stored = e .1 ∙ remaining-start p }
+  module _ (r : Bool) (h : (a : Side) (o : Role) → getD roles root 0 ≡ codeOf a o → sideOf r ≡ a) where
+    pub going-start : Going t roles widest knee (start r)
+    going-start = subst (λ (x : Bool). Going t roles widest knee (start x)) (hand-start r h) going-here
+
+    pub hung-start : (p p′ : List ℕ) (below : ℕ) → (below ≡ rowBelow t knee (start r)) × (p′ ≡ remaining t knee (start r) p) → Hung t s root edge top p below p′
+    hung-start p p′ below e =
+        let m = hand-start r h in
+        record { ends = e .0 ∙ (ap (λ (x : Bool). rowBelow t knee (start x)) (sym m) ∙ bottom-start); stored = e .1 ∙ (ap (λ (x : Bool). remaining t knee (start x) p) (sym m) ∙ remaining-start p) }
 
 -- ---- on the way
 

@@ -1,34 +1,36 @@
 -- A walk goes one node further: a lemma for each role, from the fork of its node, with what the drawing of the hung subtrees asks. Rests on Onward.
 use mathlib.Core.Path.{_≡_, refl, ap, ap₂, sym, subst, subst₂, _∙_}
-use mathlib.Core.Bool.{Bool, true, false, not}
-use mathlib.Core.Logic.{inl, inr}
+use mathlib.Core.Bool.{Bool, true, false}
+use mathlib.Core.Logic.{inl, inr, ⊎-elim}
 use mathlib.Core.List.{List, _∷_}
 use Prim.Native.Nat.{ℕ, _+_, _*_, _-_, _≤_, _<_, max}
 use native.Mathlib.Omega.{arith}
 use lib.ListN.{length, getD}
 use Rattle.table.specs.Lists.{count}
-use Rattle.table.specs.Table.{Side, left, right}
-use Rattle.table.specs.Tree.{Tree, none, size, nodes, treeAt}
+use Rattle.table.specs.Table.{Side, left, right, leftOf, rightOf, Chained}
+use Rattle.table.specs.Tree.{Tree, none, node, size, nodes, treeAt}
+use Rattle.table.specs.Refusal.{fault}
 use Rattle.table.proofs.Lists.{same}
 use Rattle.table.proofs.Chain.{count-node}
-use Rattle.table.proofs.Accepted.{tree-none, records-bounds, chain-within}
-use Rattle.layout.specs.Spine.{SpineNode, hangs, Role, knee, ordinary, switch, opposite}
+use Rattle.table.proofs.Accepted.{tree-none, tree-unfolds, records-bounds, chain-within}
+use Rattle.layout.specs.Spine.{SpineNode, hangs, Role, knee, ordinary, switch, opposite, handAfter}
 use Rattle.layout.specs.inner.Entries.{withPoint}
-use Rattle.layout.specs.inner.Held.{inwards, hungOn, heightOn, spineOn, roleNext, far, bottom, Inside}
-use Rattle.layout.proofs.Spines.{over, spineTree, tree-spine}
+use Rattle.layout.specs.inner.Held.{inwards, hungOn, heightOn, spineOn, roleNext, far, bottom, Inside, GoesOn}
+use Rattle.layout.proofs.Spines.{over, spineTree, spine-either, tree-spine}
 use Rattle.layout.proofs.Held.{inside-less}
 use Rattle.measure.specs.inner.Sized.{Named}
-use Rattle.measure.specs.inner.Forked.{sideOf, Forked}
-use Rattle.measure.specs.inner.Prepared.{codeOf}
+use Rattle.measure.specs.Chosen.{sideOf, codeOf}
+use Rattle.measure.specs.inner.Forked.{Forked}
+use Rattle.measure.specs.inner.Prepared.{Along}
 use Rattle.measure.specs.declared.roles.Role.{Role as Coded}
-use Rattle.measure.specs.inner.Roles.{handOf as sideOfCoded, roleOf, isSwitch}
+use Rattle.measure.specs.inner.Roles.{isSwitch, isKnee, handOf, roleOf}
 use Rattle.measure.proofs.Choices.{code-same, code-small}
 use Rattle.drawing.specs.Answer.{store}
 use Rattle.drawing.specs.declared.place.Walk.{Walk}
-use Rattle.drawing.specs.inner.Placing.{isKnee, Given, Hanging, Hung, finished, Ready, walkTo, handAt, Going, Stepped}
+use Rattle.drawing.specs.inner.Placing.{Given, Hanging, Hung, finished, Ready, walkTo, handAt, Going, Stepped}
 use Rattle.drawing.proofs.Shapes.{Disjoint}
-use Rattle.drawing.proofs.Columns.{inside-edge, inside-count, side-not}
-use Rattle.drawing.proofs.Onward.{knee-far, knee-near, ordinary-on, switch-over, bottom-far, bottom-near, bottom-over, along-role, along-hung, at-knee-room, at-ordinary-room, at-switch-width, at-switch-room, ready-far, ready-near, ready-ordinary, ready-switch, rows-far, rows-knee, rows-ordinary, rows-switch}
+use Rattle.drawing.proofs.Columns.{inside-edge, inside-count}
+use Rattle.drawing.proofs.Onward.{knee-far, knee-near, ordinary-on, switch-over, bottom-far, bottom-near, bottom-over, along-role, along-hung, along-next, goes-on, at-knee-room, at-ordinary-room, at-switch-width, at-switch-room, ready-far, ready-near, ready-ordinary, ready-switch, rows-far, rows-knee, rows-ordinary, rows-switch}
 
 count-over : (i k : ℕ) (s : Side) (S R : Tree) → count i (nodes (over (hangs k s S) R)) ≡ same i k + (count i (nodes S) + count i (nodes R))
 unfolding over
@@ -51,7 +53,19 @@ given-kept t sizes roles widest p p′ e g = record { sound = g .sound; sized = 
 pub hanging-as : (t roles widest : List ℕ) (s : Side) (k e c top top′ : ℕ) → top′ ≡ top → Hanging t roles widest s k e c top → Hanging t roles widest s k e c top′
 hanging-as t roles widest s k e c top top′ q h = subst (Hanging t roles widest s k e c) (sym q) h
 
--- ---- roles by the code's tests
+-- ---- roles as the code reads them
+
+-- The role that is kept for the first node of what is left of a spine.
+pub first-role : (t roles widest : List ℕ) → fault t ≡ 0 → (s a : Side) (o : Role) (k : ℕ) → Chained t k → Along roles widest a o (spineOn s (treeAt t k)) → getD roles k 0 ≡ codeOf a o
+first-role t roles widest ok s a o k c l = ⊎-elim (λ e. along-role (first (e .1))) (λ e. along-role (first (e .1))) (spine-either s k _ _)
+  where
+    first : {ls : List SpineNode} → spineOn s (node k (treeAt t (leftOf t k)) (treeAt t (rightOf t k))) ≡ ls → Along roles widest a o ls
+    first e = subst (Along roles widest a o) (ap (spineOn s) (tree-unfolds t ok k c) ∙ e) l
+
+some-spine : (t : List ℕ) (s : Side) (k : ℕ) → Named t k → GoesOn (spineOn s (treeAt t k)) → Chained t k
+unfolding spineOn
+some-spine t s k (inl e) g = absurd (subst GoesOn (ap (spineOn s) (ap (treeAt t) e ∙ tree-none t)) g)
+some-spine t s k (inr c) g = c
 
 pub knee-is : (o : Role) → isKnee o ≡ true → o ≡ knee
 knee-is knee e = refl
@@ -102,16 +116,27 @@ module _ (t roles widest : List ℕ) (w : Walk) (spine hung : ℕ) (h : Side) (f
   kept-role : (o : Role) → Going t roles widest o w → getD roles (w .at) 0 ≡ codeOf a o
   kept-role o g = along-role (here o g .along)
 
-  role-is : (c : Coded) (q o : Role) → getD roles (w .at) 0 ≡ codeOf (sideOfCoded c) (roleOf c) → roleOf c ≡ q → Going t roles widest o w → o ≡ q
-  role-is c q o e f g = code-same a (sideOfCoded c) o (roleOf c) (sym (kept-role o g) ∙ e) .1 ∙ f
+  role-is : (c : Coded) (q o : Role) → getD roles (w .at) 0 ≡ codeOf (handOf c) (roleOf c) → roleOf c ≡ q → Going t roles widest o w → o ≡ q
+  role-is c q o e f g = code-same a (handOf c) o (roleOf c) (sym (kept-role o g) ∙ e) .1 ∙ f
 
   pub role-below : (o : Role) → Going t roles widest o w → getD roles (w .at) 0 < 6
   role-below o g = omega (arith, kept-role o g, code-small a o)
 
-  pub going-as : (c : Coded) (q : Role) → getD roles (w .at) 0 ≡ codeOf (sideOfCoded c) (roleOf c) → roleOf c ≡ q → (o : Role) × Going t roles widest o w → Going t roles widest q w
+  -- A switch is followed by a node of the other hand.
+  next-chained : Going t roles widest switch w → Chained t spine
+  next-chained g = some-spine t s spine (f .named-spine) (goes-on (here switch g .rooms))
+
+  pub next-role : fault t ≡ 0 → Going t roles widest switch w → getD roles spine 0 ≡ codeOf (opposite a) (roleNext (opposite a) switch (spineOn s R))
+  unfolding handAfter
+  next-role ok g = first-role t roles widest ok s (opposite a) _ spine (next-chained g) (along-next (here switch g .along))
+
+  pub next-below : fault t ≡ 0 → Going t roles widest switch w → getD roles spine 0 < 6
+  next-below ok g = omega (arith, next-role ok g, code-small (opposite a) (roleNext (opposite a) switch (spineOn s R)))
+
+  pub going-as : (c : Coded) (q : Role) → getD roles (w .at) 0 ≡ codeOf (handOf c) (roleOf c) → roleOf c ≡ q → (o : Role) × Going t roles widest o w → Going t roles widest q w
   going-as c q e f g = subst (λ (r : Role). Going t roles widest r w) (role-is c q (g .0) e f (g .1)) (g .1)
 
-  pub stepped-for : (c : Coded) (q : Role) → getD roles (w .at) 0 ≡ codeOf (sideOfCoded c) (roleOf c) → roleOf c ≡ q → (p : List ℕ) (w′ : Walk) (p′ : List ℕ) → Stepped t roles widest q w p w′ p′ →
+  pub stepped-for : (c : Coded) (q : Role) → getD roles (w .at) 0 ≡ codeOf (handOf c) (roleOf c) → roleOf c ≡ q → (p : List ℕ) (w′ : Walk) (p′ : List ℕ) → Stepped t roles widest q w p w′ p′ →
       (o : Role) → Going t roles widest o w → Stepped t roles widest o w p w′ p′
   stepped-for c q e f p w′ p′ d o g = subst (λ (r : Role). Stepped t roles widest r w p w′ p′) (sym (role-is c q o e f g)) d
 
@@ -161,13 +186,13 @@ module _ (t roles widest : List ℕ) (w : Walk) (spine hung : ℕ) (h : Side) (f
       (ready-ordinary roles widest (w .widest) a (w .edge) _ _ (w .at) h S Q _ (here ordinary g))
       (ordinary-on (w .widest) a (w .edge) _ _ (w .at) h S Q _ p (apart ordinary g)) refl
 
-  pub stepped-switch : (p : List ℕ) → Going t roles widest switch w →
-      Stepped t roles widest switch w p (walkTo w spine (w .row + 1) (w .row + heightOn a S + heightOn a Q) 0 (not (w .right)) (inwards a (w .edge) (w .widest + 2)))
+  pub stepped-switch : (p : List ℕ) (b : Bool) → sideOf b ≡ opposite a → Going t roles widest switch w →
+      Stepped t roles widest switch w p (walkTo w spine (w .row + 1) (w .row + heightOn a S + heightOn a Q) 0 b (inwards a (w .edge) (w .widest + 2)))
       (store (hungOn a (inwards a (w .edge) 1) (w .row + heightOn a S + 1) Q) (store (hungOn a (inwards a (w .edge) 1) (w .row + 1) S) (withPoint (w .at) (inwards a (w .edge) 1) (w .row) p)))
-  stepped-switch p g = went switch (roleNext (opposite a) switch (spineOn s R)) _ _ 0 (not (w .right)) _ p _ none (tree-none t) (inl refl) (once-none switch g) none-less
-      (rw (side-not (w .right)) (ready-switch roles widest (w .widest) a (w .edge) _ _ (w .at) h S Q _ (here switch g)))
-      (rw (side-not (w .right)) (switch-over (w .widest) a (w .edge) _ _ (w .at) h S Q _ p (apart switch g) (at-switch-room (here switch g .rooms)) (apart-pending switch g)))
-      (rw (side-not (w .right)) (bottom-over a h _ _ _ (w .at) S _))
+  stepped-switch p b e g = went switch (roleNext (opposite a) switch (spineOn s R)) _ _ 0 b _ p _ none (tree-none t) (inl refl) (once-none switch g) none-less
+      (rw e (ready-switch roles widest (w .widest) a (w .edge) _ _ (w .at) h S Q _ (here switch g)))
+      (rw e (switch-over (w .widest) a (w .edge) _ _ (w .at) h S Q _ p (apart switch g) (at-switch-room (here switch g .rooms)) (apart-pending switch g)))
+      (rw e (bottom-over a h _ _ _ (w .at) S _))
 
   -- ---- what is asked on the way
 
@@ -238,12 +263,12 @@ module _ (t roles widest : List ℕ) (w : Walk) (spine hung : ℕ) (h : Side) (f
       stepped-as ordinary p _ _ _ _ (v ∙ ap₂ (λ (m n : ℕ). walkTo w spine m n (w .pending) (w .right) (w .edge)) (omega (arith, d .ends)) (omega (arith, d .ends)))
       (d .stored ∙ cc) (stepped-ordinary p g)
 
-  pub after-switch : (p p₁ p₂ p₃ : List ℕ) (column under below other : ℕ) → column ≡ inwards a (w .edge) 1 → p₁ ≡ withPoint (w .at) column (w .row) p → Hung t a hung (inwards a (w .edge) 1) (w .row + 1) p₁ under p₂ →
-      Hung t a (w .pending) (inwards a (w .edge) 1) under p₂ below p₃ → other ≡ inwards a (w .edge) (w .widest + 2) → Going t roles widest switch w →
-      Stepped t roles widest switch w p (walkTo w spine (w .row + 1) (below - 1) 0 (not (w .right)) other) p₃
-  after-switch p p₁ p₂ p₃ column under below other c q d d′ o g =
-      stepped-as switch p _ _ _ _ (ap₂ (λ (m n : ℕ). walkTo w spine (w .row + 1) m 0 (not (w .right)) n) (omega (arith, d .ends, d′ .ends)) o)
-      (d′ .stored ∙ cc (under-there)) (stepped-switch p g)
+  pub after-switch : (p p₁ p₂ p₃ : List ℕ) (column under below other : ℕ) (b : Bool) → column ≡ inwards a (w .edge) 1 → p₁ ≡ withPoint (w .at) column (w .row) p → Hung t a hung (inwards a (w .edge) 1) (w .row + 1) p₁ under p₂ →
+      Hung t a (w .pending) (inwards a (w .edge) 1) under p₂ below p₃ → other ≡ inwards a (w .edge) (w .widest + 2) → sideOf b ≡ opposite a → Going t roles widest switch w →
+      Stepped t roles widest switch w p (walkTo w spine (w .row + 1) (below - 1) 0 b other) p₃
+  after-switch p p₁ p₂ p₃ column under below other b c q d d′ o e g =
+      stepped-as switch p _ _ _ _ (ap₂ (λ (m n : ℕ). walkTo w spine (w .row + 1) m 0 b n) (omega (arith, d .ends, d′ .ends)) o)
+      (d′ .stored ∙ cc (under-there)) (stepped-switch p b e g)
     where
       under-there : under ≡ w .row + heightOn a S + 1
       under-there = omega (arith, d .ends)

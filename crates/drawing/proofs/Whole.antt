@@ -15,7 +15,8 @@ use Rattle.table.proofs.Lists.{within-one, length-within}
 use Rattle.table.proofs.Accepted.{refusal-none, tree-none, records-bounds, chain-length, root, size-chain}
 use Rattle.layout.specs.Layout.{Layout, width, height}
 use Rattle.layout.specs.Drawing.{draw, drawing}
-use Rattle.layout.specs.inner.Held.{facing, hungOn, heightOn, widthOn}
+use Rattle.layout.specs.Spine.{facing}
+use Rattle.layout.specs.inner.Held.{hungOn, heightOn, widthOn}
 use Rattle.layout.proofs.Held.{height-size, draw-hung}
 use Rattle.layout.proofs.Width.{width-small}
 use Rattle.measure.specs.inner.Sized.{Named, Sized}

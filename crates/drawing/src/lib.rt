@@ -37,7 +37,7 @@ pub struct Drawn {
     pub plan: Plan,
 }
 
-// The plan of an accepted table that has nodes. A list is lent for the roles.
+// The plan of an accepted table that has nodes: the roles and W of every spine first, then the points (document 02, Paper 3). A list is lent for the roles.
 pub fn plan_of(
     table: &[u8],
     sizes: &[u16],

@@ -1,9 +1,10 @@
-// Placing: the points of a drawing, in the columns and rows of the whole plan, stored among the placements.
-// The roles and W of each spine are read; placing chooses none.
+// Placing (document 004, Steps 5 and 6; document 01, steps 3 to 8): the points of a drawing, in the columns and rows of the whole plan, stored among the placements.
+// The roles and W of each spine are handed over and only read; placing chooses none. "004" and "01" below are these documents, whose steps have numbers of their own.
 use measure::Fork;
 use measure::fork_at;
 use measure::most;
-use measure::roles::Role;
+use measure::roles::is_knee;
+use measure::roles::is_right_at;
 use measure::roles::is_switch;
 use measure::roles::role_at;
 ghost use mathlib.Core.Path.{_≡_};
@@ -13,12 +14,12 @@ ghost use Rattle.table.specs.Table.{left, right};
 ghost use Rattle.layout.specs.Spine.{Role as LayoutRole, knee, ordinary, switch};
 ghost use Rattle.layout.specs.inner.Entries.{withPoint};
 ghost use Rattle.layout.specs.inner.Held.{inwards as inwardsOf, far, Inside};
-ghost use Rattle.measure.specs.inner.Forked.{sideOf, Forked};
-ghost use Rattle.measure.specs.inner.Roles.{roleOf};
-ghost use Rattle.drawing.specs.inner.Placing.{isKnee, handAt, walkTo, Given, Hanging, Hung, Going, Stepped};
+ghost use Rattle.measure.specs.Chosen.{sideOf};
+ghost use Rattle.measure.specs.inner.Forked.{Forked};
+ghost use Rattle.drawing.specs.inner.Placing.{handAt, walkTo, Given, Hanging, Hung, Going, Stepped};
 
-// A walk along the spine of a drawing: the next node and its row, the lowest row used so far, the pending child, 0 for none; the hand that the node
-// is on, and its edge; W of the spine, and whether its drawing is on the right side.
+// A walk along the spine of a drawing: the next node and its row, the lowest row used so far (H), the pending child, 0 for none; the hand that the node
+// is on, by its role, and that hand's edge; W of the spine, and whether its drawing is on the right side.
 pub struct Walk {
     pub at: usize,
     pub row: usize,
@@ -30,7 +31,7 @@ pub struct Walk {
     pub mirrored: bool,
 }
 
-// k columns inwards from the edge of a hand.
+// 004, Step 6(d); 01, step 7: k columns inwards from the edge of a hand.
 fn inwards(right: bool, edge: usize, k: usize) -> usize
     requires { ⌜ Inside 65536 (sideOf right) edge (k + 1) ⌝ }
     ensures { λ r. ⌜ (r ≡ inwardsOf (sideOf right) edge k) × (r < 65536) ⌝ }
@@ -38,24 +39,11 @@ fn inwards(right: bool, edge: usize, k: usize) -> usize
     if right { edge - k } else { edge + k }
 }
 
-// Whether a hung child is on the far side of a hand.
+// 004, Step 6(d); 01, step 7: whether a hung child is on the far side of a hand, which for the left hand is the right.
 fn is_far(right: bool, hung_right: bool) -> bool
     ensures { λ r. ⌜ r ≡ far (sideOf right) (sideOf «hung_right») ⌝ }
 {
     if right { !hung_right } else { hung_right }
-}
-
-fn is_knee(role: Role) -> bool
-    ensures { λ r. ⌜ r ≡ isKnee (roleOf role) ⌝ }
-{
-    match role {
-        Role::LeftKnee => true,
-        Role::OrdinaryLeft => false,
-        Role::SwitchRight => false,
-        Role::RightKnee => true,
-        Role::OrdinaryRight => false,
-        Role::SwitchLeft => false,
-    }
 }
 
 fn set_point(points: &mut [u16], k: usize, column: usize, row: usize)
@@ -84,7 +72,7 @@ fn onward(w: Walk, at: usize, row: usize, lowest: usize, pending: usize) -> Walk
     }
 }
 
-// Step 4: a child hung on the far side is drawn below all so far, and the next node is below it; one on the near side is pending.
+// 004, Step 6(a); 01, step 4: a child hung on the far side is drawn below all so far, and the next node is below it; one on the near side is pending.
 fn at_knee(
     table: &[u8],
     sizes: &[u16],
@@ -110,7 +98,7 @@ fn at_knee(
     onward(w, fork.spine, row, lowest, fork.hung)
 }
 
-// Step 5: the next node is on the bottom row of the hung drawing, or one row lower.
+// 004, Step 6(b); 01, step 5: the next node is on the bottom row of the hung drawing, or one row lower.
 fn at_ordinary(
     table: &[u8],
     sizes: &[u16],
@@ -133,7 +121,7 @@ fn at_ordinary(
     onward(w, fork.spine, most(row, lowest), lowest, w.pending)
 }
 
-// Step 6: what is pending goes under the hung drawing, and the walk goes over to the other hand.
+// 004, Step 6(c); 01, step 6: what is pending goes under the hung drawing, and the next node, a knee by its role, is at the edge of its own hand.
 fn at_switch(
     table: &[u8],
     sizes: &[u16],
@@ -155,19 +143,20 @@ fn at_switch(
     let below = draw_hung(table, sizes, roles, widest, points, w, w.pending, 1, foot);
     let lowest = below - 1;
     let edge = inwards(w.right, w.edge, w.widest + 2);
+    let right = is_right_at(roles, fork.spine);
     Walk {
         at: fork.spine,
         row,
         lowest,
         pending: 0,
-        right: !w.right,
+        right,
         edge,
         widest: w.widest,
         mirrored: w.mirrored,
     }
 }
 
-// One node of a spine: it and what hangs from it, or was pending, by its role.
+// 004, Step 6, for one node of a spine: it and what hangs from it, or was pending, by its role.
 fn step(
     table: &[u8],
     sizes: &[u16],
@@ -193,7 +182,7 @@ fn step(
     at_ordinary(table, sizes, roles, widest, points, fork, w)
 }
 
-// From the first node to the end of a spine. Step 8: what is still pending goes below all. Answers the first row below the drawing.
+// 004, Steps 5 and 6: from the first node to the end of a spine; 01, step 8, which 004 omits: what is still pending goes below all. Answers the first row below the drawing.
 fn draw_spine(
     table: &[u8],
     sizes: &[u16],
@@ -210,12 +199,13 @@ fn draw_spine(
     requires { ⌜ 0 < root ⌝ }
     ensures { λ r. ⌜ Hung (now (table .entry)) (sideOf mirrored) root edge top (now (points .entry)) r (now (points .exit)) ⌝ }
 {
+    let right = is_right_at(roles, root);
     let mut w = Walk {
         at: root,
         row: top,
         lowest: top,
         pending: 0,
-        right: mirrored,
+        right,
         edge,
         widest: widest[root] as usize,
         mirrored,
@@ -227,7 +217,7 @@ fn draw_spine(
     draw_hung(table, sizes, roles, widest, points, w, w.pending, 1, row)
 }
 
-// A drawing on the left side, by these steps. Answers the first row below it.
+// 004, Step 3(a) to (c); 01, step 3: a drawing on the left side, by these same steps. Answers the first row below it.
 fn draw_left(
     table: &[u8],
     sizes: &[u16],
@@ -246,7 +236,7 @@ fn draw_left(
     draw_spine(table, sizes, roles, widest, points, root, edge, top, false)
 }
 
-// A drawing on the right side: the mirror image, flipped left to right.
+// 004, Steps 3(d) and 6(d); 01, step 3: a drawing on the right side, which is that of the mirror image, flipped left to right.
 fn draw_right(
     table: &[u8],
     sizes: &[u16],
@@ -265,7 +255,7 @@ fn draw_right(
     draw_spine(table, sizes, roles, widest, points, root, edge, top, true)
 }
 
-// A subtree, 0 for none, on the side of the walk's hand: its edge is at that hand's column, its top at the row. Answers the first row below it.
+// 004, Step 3; 01, step 3: the drawing of a hung subtree, 0 for none, on the side of the walk's hand: its edge is at that hand's column, its top at the row. Answers the first row below it.
 fn draw_hung(
     table: &[u8],
     sizes: &[u16],
@@ -293,7 +283,7 @@ fn draw_hung(
     }
 }
 
-// The drawing of the whole tree: on the left side, from column 0 and row 0 on. Answers its height.
+// 004, Step 5; 01, step 1: the drawing of the whole tree, on the left side, from column 0 and row 0 on. Answers its height.
 pub fn draw_tree(
     table: &[u8],
     sizes: &[u16],

@@ -8,9 +8,9 @@ use Rattle.segment.specs.declared.Point.{Point}
 use Rattle.table.specs.Table.{Side, left, right}
 use Rattle.table.specs.Tree.{Tree, size}
 use Rattle.layout.specs.Layout.{Layout, blank, width, height, flip}
-use Rattle.layout.specs.Spine.{SpineNode, hangs, spine, Role, knee, ordinary, switch, opposite, seen, roleAfter, handAfter, assigned, rolesAfter}
+use Rattle.layout.specs.Spine.{SpineNode, hangs, spine, Role, knee, ordinary, switch, opposite, seen, roleAfter, handAfter, assigned, rolesAfter, facing}
 use Rattle.layout.specs.Drawing.{Part, part, hang, widest, join, place, draw}
-use Rattle.layout.specs.inner.Held.{facing, inwards, put, hungOn, spineOn, Fit}
+use Rattle.layout.specs.inner.Held.{inwards, put, hungOn, spineOn, Fit}
 use Rattle.layout.proofs.Clean.{top}
 use Rattle.layout.proofs.Points.{rooted-high}
 use Rattle.layout.proofs.Along.{Stretch, turn, run, Proper, ended, a-knee, an-ordinary, a-switch, Reached, along}

@@ -10,9 +10,9 @@ use Rattle.segment.specs.declared.Point.{Point}
 use Rattle.table.specs.Table.{Side, left, right}
 use Rattle.table.specs.Tree.{Tree, none, size}
 use Rattle.layout.specs.Layout.{Layout, blank, width, mirror}
-use Rattle.layout.specs.Spine.{SpineNode, hangs, Role, knee, handAfter}
+use Rattle.layout.specs.Spine.{SpineNode, hangs, Role, knee, handAfter, facing}
 use Rattle.layout.specs.Drawing.{join, Rest, drawing, draw}
-use Rattle.layout.specs.inner.Held.{facing, inwards, put, hungOn, heightOn, widthOn, spineOn, roleNext, far, lay, widestOn, Fit, Inside, Rooms, no-rooms, knee-room, ordinary-room, switch-room}
+use Rattle.layout.specs.inner.Held.{inwards, put, hungOn, heightOn, widthOn, spineOn, roleNext, far, lay, widestOn, Fit, Inside, Rooms, no-rooms, knee-room, ordinary-room, switch-room}
 use Rattle.layout.proofs.Rows.{shape}
 use Rattle.layout.proofs.Spines.{hungTree}
 use Rattle.layout.proofs.Sides.{shape-hung}
@@ -81,7 +81,7 @@ laid-hung : (B W H r p : ℕ) {a : Side} {e f : ℕ} {o : Role} {ls : List Spine
 unfolding lay far join handAfter handAt treeAt hungAt
 laid-hung B W H r p (no-rooms {a}) = record { each = λ i. nothing-hung a }
 laid-hung B W H r p (ordinary-room {a} {s} {e} {k} {S} i n) = hung-join k _ s (hung-there B a e 2 (r + 1) S i) (laid-hung B W (r + heightOn a S) (r + max 1 (heightOn a S)) p n)
-laid-hung B W H r p (switch-room {a} {s} {e} {k} {S} w i x n) =
+laid-hung B W H r p (switch-room {a} {s} {e} {k} {S} z w i x n) =
     hung-join k _ s (hung-there B a e 1 (r + 1) S (inside-less B a e (omega arith) i)) (laid-hung B W (r + heightOn a S + p) (r + 1) 0 n)
 laid-hung B W H r p (knee-room {a} {s} {e} {k} {S} i n) = either (far a s) _ _
     (hung-join k _ s (hung-there B a e 1 _ S i) (laid-hung B W (max H r + heightOn a S) (max H r + heightOn a S + 1) 0 n))

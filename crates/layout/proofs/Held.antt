@@ -8,9 +8,9 @@ use Rattle.segment.specs.Segment.{at}
 use Rattle.table.specs.Table.{Side, left, right}
 use Rattle.table.specs.Tree.{Tree, size}
 use Rattle.layout.specs.Layout.{Layout, blank, placed, width, height, shift, flip}
-use Rattle.layout.specs.Spine.{SpineNode, hangs, Role, knee, ordinary, switch, opposite, seen, roleAfter, handAfter, assigned, rolesAfter}
+use Rattle.layout.specs.Spine.{SpineNode, hangs, Role, knee, ordinary, switch, opposite, seen, roleAfter, handAfter, assigned, rolesAfter, facing}
 use Rattle.layout.specs.Drawing.{Part, part, hang, widest, join, place, draw}
-use Rattle.layout.specs.inner.Held.{facing, inwards, put, hungOn, heightOn, widthOn, spineOn, roleNext, far, lay, rolesOn, widestOn, Frame, Fit, Exact, bottom, Inside, Rooms, no-rooms, knee-room, ordinary-room, switch-room}
+use Rattle.layout.specs.inner.Held.{inwards, put, hungOn, heightOn, widthOn, spineOn, roleNext, far, lay, rolesOn, widestOn, Frame, Fit, Exact, bottom, Inside, GoesOn, Rooms, no-rooms, knee-room, ordinary-room, switch-room}
 use Rattle.layout.proofs.Motions.{width-shift, width-shifted, width-flip}
 use Rattle.layout.proofs.Rows.{shape, count, size-facing}
 use Rattle.layout.proofs.Steps.{wide-join}
@@ -66,6 +66,12 @@ place-wide W H r p (part ordinary k s D ∷ ps) w =
 place-wide W H r p (part switch k s D ∷ ps) w =
     let N = place W (r + height D + p) (r + 1) 0 ps .drawn in
     omega (arith, wide-join k (at 1 r) s (shift 1 (r + 1) D) (flip (W + 2) N), width-flip (W + 2) N, width-shift 1 (r + 1) D)
+
+-- After a switch the spine goes on.
+some-left : (ls : List SpineNode) → 1 ≤ size (spineTree ls) → GoesOn ls
+unfolding spineTree size
+some-left [] g = absurd (omega arith)
+some-left (l ∷ ls) g = tt
 
 -- After a switch comes a knee, so that the flipped rest is as wide as the frame.
 told-wide : (W H r p : ℕ) {a : Side} {ls : List SpineNode} {ps : List Part} → 1 ≤ size (spineTree ls) → Told a (roleNext a switch ls) ls ps → W + 3 ≤ width (flip (W + 2) (place W H r p ps .drawn))
@@ -130,7 +136,7 @@ module _ (B W t : ℕ) where
         drawn = held-join a e t k 1 r 1 (r + 1) s S (flip (W + 2) N) refl j (omega arith) (n .drawn ∙ sym (put-flip a e f (W + 2) t x N (omega arith)));
         under = omega arith;
         lowest = n .lowest;
-        rooms = switch-room wD i′ x (n .rooms);
+        rooms = switch-room (some-left _ g) wD i′ x (n .rooms);
       }
   laid left e f w fr i (told {s = left} {o = knee} {k} {S} {ps} g z) H H′ r r′ p h j l m =
       let D = draw (facing left S) in

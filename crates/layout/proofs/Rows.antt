@@ -9,7 +9,7 @@ use Rattle.table.specs.Table.{Side, left, right}
 use Rattle.table.specs.Tree.{Tree, none, node, size, nodes}
 use Rattle.table.proofs.Lists.{member-append}
 use Rattle.layout.specs.Layout.{Layout, blank, placed, shift, flip, mirror}
-use Rattle.layout.specs.inner.Held.{facing}
+use Rattle.layout.specs.Spine.{facing}
 use Rattle.layout.proofs.Clean.{onSide, Node, root, below, point}
 
 -- The tree of which it is a layout.

@@ -1,6 +1,6 @@
 -- A drawing on a side, from the tree as it stands: its parts (`parts-on`, `draw-on`), and its records and links (`shape-hung`). A drawing held by its right edge is that of
 -- the mirror image, flipped and shifted (`put-held`).
-use mathlib.Core.Path.{_≡_, refl, ap, _∙_, ap₂}
+use mathlib.Core.Path.{_≡_, refl, ap, sym, _∙_, ap₂}
 use mathlib.Core.List.{List, [], _∷_, map}
 use Prim.Native.Nat.{ℕ, suc, _+_, _≤_}
 use native.Mathlib.Omega.{arith}
@@ -8,11 +8,11 @@ use Rattle.segment.specs.Segment.{at}
 use Rattle.table.specs.Table.{Side, left, right}
 use Rattle.table.specs.Tree.{Tree, none, node, size}
 use Rattle.layout.specs.Layout.{Layout, blank, placed, width, shift, flip, mirror, height}
-use Rattle.layout.specs.Spine.{SpineNode, hangs, spine, Role, knee, ordinary, switch, opposite, seen, roleAfter, handAfter, Assigned, assigned, rolesAfter}
+use Rattle.layout.specs.Spine.{SpineNode, hangs, spine, Role, knee, ordinary, switch, opposite, seen, roleAfter, handAfter, Assigned, assigned, rolesAfter, roles, facing}
 use Rattle.layout.specs.Drawing.{Part, hang, join, draw, drawing}
-use Rattle.layout.specs.inner.Held.{facing, inwards, put, hungOn, spineOn, rolesOn, Exact, heightOn, widthOn}
+use Rattle.layout.specs.inner.Held.{inwards, put, hungOn, spineOn, rolesOn, Exact, heightOn, widthOn}
 use Rattle.layout.proofs.Rows.{mirror-twice, shape, facing-twice}
-use Rattle.layout.proofs.Spines.{parts, spine-on}
+use Rattle.layout.proofs.Spines.{parts, spine-on, first-knee}
 use Rattle.layout.proofs.Whole.{drawn, whole, draw-parts}
 
 -- ---- the spine and its roles, from the tree as it stands
@@ -58,12 +58,18 @@ first-on s [] = refl
 first-on left (l ∷ ls) = refl
 first-on right (l ∷ ls) = refl
 
+-- The roles of a spine on a side are those of the spine that the side sees.
+pub roles-on : (s : Side) (S : Tree) → roles (spine (facing s S)) ≡ rolesOn s (spineOn s S)
+roles-on s S =
+    first-knee (spine (facing s S))
+    ∙ (ap (rolesAfter right switch) (spine-on s S) ∙ (roles-seen s right switch (spineOn s S) ∙ (ap (λ (z : Side). rolesAfter z switch (spineOn s S)) (side-right s) ∙ first-on s (spineOn s S))))
+
 -- The parts of a drawing on a side, and the drawing from them.
 abbrev pub partsOn : Side → Tree → List Part
 partsOn s S = map (hang draw) (rolesOn s (spineOn s S))
 
 pub parts-on : (s : Side) (S : Tree) → parts draw right switch (spine (facing s S)) ≡ partsOn s S
-parts-on s S = ap (map (hang draw)) (ap (rolesAfter right switch) (spine-on s S) ∙ (roles-seen s right switch (spineOn s S) ∙ (ap (λ (z : Side). rolesAfter z switch (spineOn s S)) (side-right s) ∙ first-on s (spineOn s S))))
+parts-on s S = ap (map (hang draw)) (sym (first-knee (spine (facing s S))) ∙ roles-on s S)
 
 pub draw-on : (s : Side) (S : Tree) → draw (facing s S) ≡ whole (partsOn s S)
 draw-on s S = draw-parts (facing s S) ∙ ap whole (parts-on s S)

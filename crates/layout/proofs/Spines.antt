@@ -13,9 +13,9 @@ use Rattle.segment.specs.declared.Point.{Point}
 use Rattle.table.specs.Table.{Side, left, right}
 use Rattle.table.specs.Tree.{Tree, none, node, size}
 use Rattle.layout.specs.Layout.{Layout, blank, placed, width, mirror, height, shift, flip}
-use Rattle.layout.specs.Spine.{SpineNode, hangs, spine, Role, knee, ordinary, switch, opposite, seen, runRole, roleAfter, handAfter, assigned, rolesAfter, roles}
+use Rattle.layout.specs.Spine.{SpineNode, hangs, spine, Role, knee, ordinary, switch, opposite, seen, runRole, roleAfter, handAfter, assigned, rolesAfter, roles, facing}
 use Rattle.layout.specs.Drawing.{Part, part, hang, widest, join, place}
-use Rattle.layout.specs.inner.Held.{facing, spineOn}
+use Rattle.layout.specs.inner.Held.{spineOn}
 use Rattle.layout.proofs.Clean.{HasRoot, a-root}
 use Rattle.layout.proofs.Motions.{width-flip}
 use Rattle.layout.proofs.Rows.{shape, mirror-twice, size-mirror, shape-shift, shape-flip}

@@ -7,9 +7,9 @@ use native.Mathlib.Omega.{arith}
 use Rattle.table.specs.Table.{Side, left, right}
 use Rattle.table.specs.Tree.{Tree, none, node, size}
 use Rattle.layout.specs.Layout.{Layout, width, height, shift, flip}
-use Rattle.layout.specs.Spine.{SpineNode, hangs, Role, knee, ordinary, switch, seen, runRole, roleAfter, handAfter, assigned, rolesAfter}
+use Rattle.layout.specs.Spine.{SpineNode, hangs, Role, knee, ordinary, switch, seen, runRole, roleAfter, handAfter, assigned, rolesAfter, facing}
 use Rattle.layout.specs.Drawing.{Part, part, hang, widest, join, place, draw}
-use Rattle.layout.specs.inner.Held.{facing, widthOn, widestOn}
+use Rattle.layout.specs.inner.Held.{widthOn, widestOn}
 use Rattle.layout.specs.inner.Width.{edge, turn}
 use Rattle.layout.proofs.Motions.{width-shift, width-shifted}
 use Rattle.layout.proofs.Rows.{size-facing}

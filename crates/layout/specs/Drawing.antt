@@ -1,4 +1,4 @@
--- The drawing: steps 3 to 8 of document 01, "The drawing steps". Placing is handed the roles and chooses none.
+-- The drawing: steps 3 to 8 of document 01, "The drawing steps" (document 004, Steps 3 to 6). Placing is handed the roles and chooses none.
 use mathlib.Core.List.{List, [], _∷_, map}
 use Prim.Native.Nat.{ℕ, zero, suc, _+_, max}
 use Rattle.segment.specs.declared.Point.{Point}

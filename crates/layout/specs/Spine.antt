@@ -1,4 +1,4 @@
--- The spine of a tree and the roles of its nodes, from the tree alone (document 01, "The drawing steps", steps 1, 2 and 7).
+-- The spine of a tree and the roles of its nodes, from the tree alone (document 01, "The drawing steps", steps 1, 2 and 7; document 004, Steps 1 to 3).
 use mathlib.Core.Bool.{true, false}
 use mathlib.Core.List.{List, [], _∷_}
 use Prim.Native.Nat.{ℕ}
@@ -24,6 +24,11 @@ pub data Role : Type 0 where
 unfoldable pub opposite : Side → Side
 opposite left = right
 opposite right = left
+
+-- The tree as a side sees it: on the right "the mirror image is drawn" (step 3).
+unfoldable pub facing : Side → Tree → Tree
+facing left t = t
+facing right t = mirror t
 
 -- A spine node as its hand sees it: on the right hand left and right are exchanged (step 7), and "the mirror image is drawn" of what hangs there (step 3).
 unfoldable pub seen : Side → SpineNode → SpineNode

@@ -10,9 +10,8 @@ use Rattle.layout.specs.Layout.{mirror}
 use Rattle.layout.specs.Spine.{SpineNode, hangs, Role as LayoutRole, knee, ordinary, switch, opposite, seen, runRole, roleAfter, handAfter}
 use Rattle.measure.specs.declared.Fork.{Fork}
 use Rattle.measure.specs.declared.roles.Role.{Role}
-use Rattle.measure.specs.inner.Forked.{sideOf}
-use Rattle.measure.specs.inner.Prepared.{codeOf}
-use Rattle.measure.specs.inner.Roles.{handOf, roleOf, isSwitch, nodeOf, Runs, Follows}
+use Rattle.measure.specs.Chosen.{sideOf, codeOf}
+use Rattle.measure.specs.inner.Roles.{isSwitch, nodeOf, Runs, Follows, handOf, roleOf}
 
 -- Step 2 in a run: a switch exactly where something hangs on the hand's own side.
 run-bare : (a h : Side) (k : ℕ) (S : Tree) → S ≡ none → runRole (seen a (hangs k h S)) ≡ ordinary

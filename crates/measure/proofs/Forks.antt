@@ -16,7 +16,8 @@ use Rattle.table.proofs.Accepted.{records-bounds, chain-within, links-chained, 
 use Rattle.layout.specs.Spine.{hangs}
 use Rattle.layout.specs.inner.Held.{spineOn}
 use Rattle.measure.specs.inner.Sized.{Named, Sized}
-use Rattle.measure.specs.inner.Forked.{sideOf, Forked}
+use Rattle.measure.specs.Chosen.{sideOf}
+use Rattle.measure.specs.inner.Forked.{Forked}
 
 -- What a link names is within a list of 4097.
 pub named-within : (t : List ℕ) → fault t ≡ 0 → (k : ℕ) → Named t k → k < 4097

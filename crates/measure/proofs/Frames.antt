@@ -1,11 +1,12 @@
--- What is prepared of a tree depends only on the entries at its nodes: counts of nodes along a spine, and frames. Rests on the laws of accepted tables and of spines.
-use mathlib.Core.Path.{_≡_, refl, ap, _∙_}
-use mathlib.Core.Logic.{inl, inr, ⊎-elim}
+-- What is prepared of a tree depends only on the entries at its nodes: counts of nodes along a spine, and frames. The roles of a spine, kept in a list and found there. Rests on the laws of
+-- accepted tables, of spines and of drawings on a side.
+use mathlib.Core.Path.{_≡_, refl, sym, ap, subst, _∙_}
+use mathlib.Core.Logic.{_↔_, inl, inr, ⊎-elim}
 use mathlib.Core.List.{List, [], _∷_}
 use Prim.Native.Nat.{ℕ, _+_, _≤_, _<_}
 use native.Mathlib.Omega.{arith}
 use lib.Dec.{T}
-use lib.ListN.{getD, length, length-set}
+use lib.ListN.{getD, length, set, length-set}
 use lib.Seq.{getD-set-same, getD-set-other}
 use Rattle.table.specs.Lists.{member, count}
 use Rattle.table.specs.Table.{Side, left, right, records, leftOf, rightOf, linkOf, chain}
@@ -14,12 +15,13 @@ use Rattle.table.specs.Refusal.{fault}
 use Rattle.table.proofs.Lists.{same, same-one, member-count, repeats-count}
 use Rattle.table.proofs.Chain.{count-node, reached}
 use Rattle.table.proofs.Accepted.{links-chained, nodes-distinct, down, tree-unfolds, tree-none}
-use Rattle.layout.specs.Spine.{SpineNode, hangs, Role, seen, roleAfter, handAfter}
+use Rattle.layout.specs.Spine.{SpineNode, hangs, spine, Role, switch, opposite, facing, seen, roleAfter, handAfter, Assigned, assigned, rolesAfter, roles}
 use Rattle.layout.specs.inner.Held.{spineOn, roleNext}
 use Rattle.layout.proofs.Spines.{spine-either}
+use Rattle.layout.proofs.Sides.{first-on, roles-on}
 use Rattle.measure.specs.inner.Sized.{Named}
-use Rattle.measure.specs.inner.Prepared.{codeOf, Prepared, no-spine, a-spine, Along, ended, onward}
-use Rattle.measure.specs.inner.Roles.{withRoles}
+use Rattle.measure.specs.Chosen.{codeOf, withRoles}
+use Rattle.measure.specs.inner.Prepared.{Prepared, no-spine, a-spine, Along, ended, onward}
 
 -- How often x is a node of the spine or of what hangs from it; of what hangs from it.
 unfoldable pub countOn : ℕ → List SpineNode → ℕ
@@ -89,30 +91,73 @@ mutual
       (prepared-frame R′ W′ p (λ x h. f x (omega arith)) (λ x h. g x (omega arith)))
       (along-frame R′ W′ l (λ x h. f x (omega arith)) (λ x h. g x (omega arith)))
 
--- The roles from a spine node on, which follows a node of role o on the hand s, stand in the list R.
-abbrev pub Coded : List ℕ → Side → Role → List SpineNode → Type 0
-Coded R s o [] = Unit {0}
-Coded R s o (hangs k h S ∷ ls) =
-    (getD R k 0 ≡ codeOf (handAfter o s) (roleAfter o (seen (handAfter o s) (hangs k h S)))) × Coded R (handAfter o s) (roleAfter o (seen (handAfter o s) (hangs k h S))) ls
+-- ---- the roles of a spine in a list
 
-pub coded-frame : (R R′ : List ℕ) (s : Side) (o : Role) (ls : List SpineNode) → Coded R s o ls → Agree (λ x. countOn x ls) R R′ → Coded R′ s o ls
-unfolding countOn
-coded-frame R R′ s o [] c f = tt
-coded-frame R R′ s o (hangs k h S ∷ ls) c f = (f k (omega (arith, same-one k k refl)) ∙ c .0, coded-frame R R′ _ _ ls (c .1) (λ x i. f x (omega arith)))
+-- The list R has the roles of a spine, each at its node's record.
+abbrev pub Keeps : List ℕ → Side → List Assigned → Type 0
+Keeps R a [] = Unit {0}
+Keeps R a (assigned o (hangs k s S) ∷ rs) = (getD R k 0 ≡ codeOf a o) × Keeps R (handAfter o a) rs
+
+-- One node of the spine, as its hand sees it.
+pub with-seen : (a : Side) (o : Role) (k : ℕ) (h : Side) (S : Tree) (rs : List Assigned) (R : List ℕ) → withRoles a (assigned o (seen a (hangs k h S)) ∷ rs) R ≡ withRoles (handAfter o a) rs (set R k (codeOf a o))
+unfolding withRoles seen
+with-seen left o k h S rs R = refl
+with-seen right o k h S rs R = refl
+
+pub keeps-seen : (R : List ℕ) (a : Side) (o : Role) (k : ℕ) (h : Side) (S : Tree) (rs : List Assigned) → Keeps R a (assigned o (seen a (hangs k h S)) ∷ rs) ↔ ((getD R k 0 ≡ codeOf a o) × Keeps R (handAfter o a) rs)
+unfolding seen
+keeps-seen R left o k h S rs = (λ c. c, λ c. c)
+keeps-seen R right o k h S rs = (λ c. c, λ c. c)
+
+-- The roles from a spine node on, which follows a node of role o on the hand s: kept in the list R, and found there.
+abbrev pub withAfter : Side → Role → List SpineNode → List ℕ → List ℕ
+withAfter s o ls R = withRoles (handAfter o s) (rolesAfter s o ls) R
+
+abbrev pub KeepsAfter : List ℕ → Side → Role → List SpineNode → Type 0
+KeepsAfter R s o ls = Keeps R (handAfter o s) (rolesAfter s o ls)
+
+pub keeps-frame : (R R′ : List ℕ) (s : Side) (o : Role) (ls : List SpineNode) → KeepsAfter R s o ls → Agree (λ x. countOn x ls) R R′ → KeepsAfter R′ s o ls
+unfolding rolesAfter countOn
+keeps-frame R R′ s o [] c f = tt
+keeps-frame R R′ s o (hangs k h S ∷ ls) c f =
+    let s′ = handAfter o s in
+    let o′ = roleAfter o (seen s′ (hangs k h S)) in
+    let d = keeps-seen R s′ o′ k h S (rolesAfter s′ o′ ls) .0 c in
+    keeps-seen R′ s′ o′ k h S (rolesAfter s′ o′ ls) .1 (f k (omega (arith, same-one k k refl)) ∙ d .0, keeps-frame R R′ s′ o′ ls (d .1) (λ x i. f x (omega arith)))
 
 -- Keeping the roles of a spine changes nothing elsewhere, and they stand in the list afterwards.
-pub with-kept : (s : Side) (o : Role) (ls : List SpineNode) (rs : List ℕ) (x : ℕ) → countOn x ls ≡ 0 → getD (withRoles s o ls rs) x 0 ≡ getD rs x 0
-unfolding withRoles countOn
-with-kept s o [] rs x n = refl
-with-kept s o (hangs k h S ∷ ls) rs x n = with-kept _ _ ls _ x (omega arith) ∙ getD-set-other rs k x _ 0 (λ e. omega (arith, same-one x k e))
+pub with-kept : (s : Side) (o : Role) (ls : List SpineNode) (R : List ℕ) (x : ℕ) → countOn x ls ≡ 0 → getD (withAfter s o ls R) x 0 ≡ getD R x 0
+unfolding rolesAfter withRoles countOn
+with-kept s o [] R x n = refl
+with-kept s o (hangs k h S ∷ ls) R x n =
+    let s′ = handAfter o s in
+    let o′ = roleAfter o (seen s′ (hangs k h S)) in
+    ap (λ (X : List ℕ). getD X x 0) (with-seen s′ o′ k h S (rolesAfter s′ o′ ls) R) ∙ (with-kept s′ o′ ls (set R k (codeOf s′ o′)) x (omega arith) ∙ getD-set-other R k x _ 0 (λ e. omega (arith, same-one x k e)))
 
-pub with-coded : (s : Side) (o : Role) (ls : List SpineNode) (rs : List ℕ) → ((x : ℕ) → countOn x ls ≤ 1) → ((x : ℕ) → 1 ≤ countOn x ls → x < length rs) → Coded (withRoles s o ls rs) s o ls
-unfolding withRoles countOn
-with-coded s o [] rs d i = tt
-with-coded s o (hangs k h S ∷ ls) rs d i = (
-  with-kept _ _ ls _ k (omega (arith, d k, same-one k k refl)) ∙ getD-set-same rs k _ 0 (i k (omega (arith, same-one k k refl))),
-  with-coded _ _ ls _ (λ x. omega (arith, d x)) (λ x j. simp length-set (i x (omega arith))),
-)
+pub with-keeps : (s : Side) (o : Role) (ls : List SpineNode) (R : List ℕ) → ((x : ℕ) → countOn x ls ≤ 1) → ((x : ℕ) → 1 ≤ countOn x ls → x < length R) → KeepsAfter (withAfter s o ls R) s o ls
+unfolding rolesAfter withRoles countOn
+with-keeps s o [] R d i = tt
+with-keeps s o (hangs k h S ∷ ls) R d i =
+    let s′ = handAfter o s in
+    let o′ = roleAfter o (seen s′ (hangs k h S)) in
+    let rs = rolesAfter s′ o′ ls in
+    subst (λ (X : List ℕ). Keeps X s′ (assigned o′ (seen s′ (hangs k h S)) ∷ rs)) (sym (with-seen s′ o′ k h S rs R))
+    (keeps-seen (withAfter s′ o′ ls (set R k (codeOf s′ o′))) s′ o′ k h S rs .1 (
+      with-kept s′ o′ ls (set R k (codeOf s′ o′)) k (omega (arith, d k, same-one k k refl)) ∙ getD-set-same R k _ 0 (i k (omega (arith, same-one k k refl))),
+      with-keeps s′ o′ ls (set R k (codeOf s′ o′)) (λ x. omega (arith, d x)) (λ x j. simp length-set (i x (omega arith))),
+    ))
+
+-- All the roles of a spine on the side s are those that follow a switch of the other hand.
+after-switch : (s : Side) → handAfter switch (opposite s) ≡ s
+unfolding handAfter opposite
+after-switch left = refl
+after-switch right = refl
+
+roles-after : (s : Side) (S : Tree) → roles (spine (facing s S)) ≡ rolesAfter (opposite s) switch (spineOn s S)
+roles-after s S = roles-on s S ∙ sym (first-on s (spineOn s S))
+
+pub with-whole : (s : Side) (S : Tree) (R : List ℕ) → withRoles s (roles (spine (facing s S))) R ≡ withAfter (opposite s) switch (spineOn s S) R
+with-whole s S R = cc (after-switch s, roles-after s S)
 
 -- What is prepared along a spine, after a node of role o on the hand a; with one more node before it.
 abbrev pub AlongAfter : List ℕ → List ℕ → Side → Role → List SpineNode → Type 0

@@ -1,6 +1,7 @@
 -- The laws that the functions of this crate rest on.
 pub mod Forks
 pub mod Choices
-pub mod Spines
 pub mod Frames
+pub mod Spines
 pub mod Surveys
+pub mod Handed

@@ -1,4 +1,4 @@
--- The list of roles, kept along a spine. Rests on Forks and Choices.
+-- The list of roles, kept along a spine. Rests on Forks, Choices and Frames.
 use mathlib.Core.Path.{_≡_, refl, sym, ap, _∙_}
 use mathlib.Core.Logic.{_↔_, inl, inr, ⊎-elim}
 use mathlib.Core.List.{List}
@@ -11,14 +11,16 @@ use Rattle.table.specs.Table.{Side, chain}
 use Rattle.table.specs.Tree.{Tree, none, node, treeAt}
 use Rattle.table.specs.Refusal.{fault}
 use Rattle.table.proofs.Accepted.{tree-unfolds, tree-none}
-use Rattle.layout.specs.Spine.{SpineNode, Role as LayoutRole, seen, roleAfter, handAfter}
-use Rattle.layout.specs.inner.Held.{spineOn}
+use Rattle.layout.specs.Spine.{SpineNode, spine, Role as LayoutRole, knee, facing, seen, roleAfter, handAfter, Assigned, rolesAfter, roles}
+use Rattle.layout.specs.inner.Held.{spineOn, rolesOn}
+use Rattle.layout.proofs.Sides.{roles-on}
 use Rattle.measure.specs.declared.Fork.{Fork}
 use Rattle.measure.specs.declared.roles.Role.{Role}
 use Rattle.measure.specs.inner.Sized.{Named}
-use Rattle.measure.specs.inner.Forked.{sideOf, Forked}
-use Rattle.measure.specs.inner.Prepared.{codeOf}
-use Rattle.measure.specs.inner.Roles.{handOf, roleOf, nodeOf, Follows, withRoles}
+use Rattle.measure.specs.Chosen.{sideOf, codeOf, withRoles}
+use Rattle.measure.specs.inner.Forked.{Forked}
+use Rattle.measure.specs.inner.Roles.{nodeOf, Follows, handOf, roleOf}
+use Rattle.measure.proofs.Frames.{with-seen, withAfter}
 
 -- A record that is not zero is chained; one that stands for no tree is zero.
 pub chained : (t : List ℕ) (k : ℕ) → Named t k → (k ≡ 0 → ⊥) → T (member k (chain t))
@@ -31,24 +33,33 @@ stands t ok k n = (λ e. rw e (tree-none t), λ e. ⊎-elim (λ (z : k ≡ 0). z
     never : {a b : Tree} {i : ℕ} → node i a b ≡ none → ⊥
     never e = let z : _≡_ {A = ℕ} 0 1 = cc in omega arith
 
+-- The first node of the spine is a knee of its side.
+pub with-first : (t : List ℕ) (s : Side) (k k′ hung : ℕ) (h : Side) → Forked t s k k′ hung h → (r : Role) → (handOf r ≡ s) × (roleOf r ≡ knee) → (n : ℕ) → n ≡ codeOf (handOf r) (roleOf r) → (R : List ℕ) →
+    withRoles s (roles (spine (facing s (treeAt t k)))) R ≡ withAfter (handOf r) (roleOf r) (spineOn s (treeAt t k′)) (set R k n)
+unfolding rolesOn
+with-first t s k k′ hung h d r e n i R =
+    ap (λ (rs : List Assigned). withRoles s rs R) (roles-on s (treeAt t k) ∙ ap (rolesOn s) (d .forks))
+    ∙ (with-seen s knee k h (treeAt t hung) (rolesAfter s knee (spineOn s (treeAt t k′))) R ∙ rw (i, e .0, e .1) refl)
+
 -- One more node of the spine.
-pub with-node : (t : List ℕ) → fault t ≡ 0 → (s : Side) (k : ℕ) (f : Fork) → Forked t s k (f .spine) (f .hung) (sideOf (f .«hung_right»)) → (b r : Role) → Follows b f r → (n : ℕ) → n ≡ codeOf (handOf r) (roleOf r) → (rs : List ℕ) →
-    withRoles (handOf b) (roleOf b) (spineOn s (treeAt t k)) rs ≡ withRoles (handOf r) (roleOf r) (spineOn s (treeAt t (f .spine))) (set rs k n)
-unfolding withRoles
-with-node t ok s k f d b r w n i rs = ap (λ (ls : List SpineNode). withRoles (handOf b) (roleOf b) ls rs) (d .forks) ∙ go (handAfter (roleOf b) (handOf b)) (sym (w .hand)) (sym (w .role k (treeAt t (f .hung)) (stands t ok (f .hung) (d .named-hung))))
+pub with-node : (t : List ℕ) → fault t ≡ 0 → (s : Side) (k : ℕ) (f : Fork) → Forked t s k (f .spine) (f .hung) (sideOf (f .«hung_right»)) → (b r : Role) → Follows b f r → (n : ℕ) → n ≡ codeOf (handOf r) (roleOf r) → (R : List ℕ) →
+    withAfter (handOf b) (roleOf b) (spineOn s (treeAt t k)) R ≡ withAfter (handOf r) (roleOf r) (spineOn s (treeAt t (f .spine))) (set R k n)
+unfolding rolesAfter
+with-node t ok s k f d b r w n i R =
+    ap (λ (ls : List SpineNode). withAfter (handOf b) (roleOf b) ls R) (d .forks)
+    ∙ (with-seen _ _ k _ S _ R ∙ go (handAfter (roleOf b) (handOf b)) (sym (w .hand)) (sym (w .role k S (stands t ok (f .hung) (d .named-hung)))))
   where
+    S : Tree
+    S = treeAt t (f .hung)
+
     ls : List SpineNode
     ls = spineOn s (treeAt t (f .spine))
 
-    go : (a : Side) → a ≡ handOf r → roleAfter (roleOf b) (seen (handOf r) (nodeOf f k (treeAt t (f .hung)))) ≡ roleOf r →
-        withRoles a (roleAfter (roleOf b) (seen a (nodeOf f k (treeAt t (f .hung))))) ls (set rs k (codeOf a (roleAfter (roleOf b) (seen a (nodeOf f k (treeAt t (f .hung)))))))
-        ≡ withRoles (handOf r) (roleOf r) ls (set rs k n)
+    go : (a : Side) → a ≡ handOf r → roleAfter (roleOf b) (seen (handOf r) (nodeOf f k S)) ≡ roleOf r →
+        withAfter a (roleAfter (roleOf b) (seen a (nodeOf f k S))) ls (set R k (codeOf a (roleAfter (roleOf b) (seen a (nodeOf f k S))))) ≡ withAfter (handOf r) (roleOf r) ls (set R k n)
     go a e d = rw (e, d, i) refl
 
--- From the same hand and role; at no node.
-pub with-same : {a b : Side} {o p : LayoutRole} (ls : List SpineNode) (rs : List ℕ) → a ≡ b → o ≡ p → withRoles a o ls rs ≡ withRoles b p ls rs
-with-same ls rs e d = cc
-
-pub with-none : (t : List ℕ) (s a : Side) (o : LayoutRole) (k : ℕ) (rs : List ℕ) → k ≡ 0 → withRoles a o (spineOn s (treeAt t k)) rs ≡ rs
-unfolding withRoles spineOn
-with-none t s a o k rs e = rw (e, tree-none t) refl
+-- At no node.
+pub with-none : (t : List ℕ) (s a : Side) (o : LayoutRole) (k : ℕ) (R : List ℕ) → k ≡ 0 → withAfter a o (spineOn s (treeAt t k)) R ≡ R
+unfolding withRoles rolesAfter spineOn
+with-none t s a o k R e = rw (e, tree-none t) refl

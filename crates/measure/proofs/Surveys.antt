@@ -16,9 +16,9 @@ use Rattle.table.specs.Refusal.{fault}
 use Rattle.table.proofs.Lists.{same, same-one, length-within}
 use Rattle.table.proofs.Chain.{length-nodes}
 use Rattle.table.proofs.Accepted.{records-bounds, chain-length, size-below, tree-unfolds, tree-none}
-use Rattle.layout.specs.Spine.{SpineNode, hangs, Role, knee, ordinary, switch, opposite, seen, roleAfter, handAfter, assigned, Assigned, rolesAfter}
+use Rattle.layout.specs.Spine.{SpineNode, hangs, spine, Role, knee, ordinary, switch, opposite, facing, seen, roleAfter, handAfter, assigned, Assigned, rolesAfter, roles}
 use Rattle.layout.specs.Drawing.{Part, hang, widest, draw}
-use Rattle.layout.specs.inner.Held.{facing, widthOn, spineOn, roleNext, widestOn}
+use Rattle.layout.specs.inner.Held.{widthOn, spineOn, roleNext, widestOn}
 use Rattle.layout.specs.inner.Width.{edge, turn}
 use Rattle.layout.proofs.Spines.{parts}
 use Rattle.layout.proofs.Sides.{partsOn, first-on, width-none}
@@ -27,12 +27,13 @@ use Rattle.measure.specs.declared.roles.Role.{Role as CodeRole}
 use Rattle.measure.specs.declared.survey.Survey.{Survey}
 use Rattle.measure.specs.inner.Sized.{Named}
 use Rattle.measure.specs.inner.Forked.{Forked}
-use Rattle.measure.specs.inner.Prepared.{codeOf, Prepared, no-spine, a-spine, Along, ended}
-use Rattle.measure.specs.inner.Roles.{handOf, roleOf, withRoles}
+use Rattle.measure.specs.inner.Roles.{handOf, roleOf}
+use Rattle.measure.specs.Chosen.{codeOf, withRoles}
+use Rattle.measure.specs.inner.Prepared.{Prepared, no-spine, a-spine, Along, ended}
 use Rattle.measure.specs.inner.Measured.{SameOutside, Measured, Longer}
 use Rattle.measure.proofs.Forks.{named-within}
 use Rattle.measure.proofs.Choices.{code-same, code-small}
-use Rattle.measure.proofs.Frames.{countOn, countHung, count-spine, hung-below, nodes-named, once, prepared-frame, along-frame, Coded, coded-frame, with-kept, with-coded, AlongAfter, along-node}
+use Rattle.measure.proofs.Frames.{countOn, countHung, count-spine, hung-below, nodes-named, once, prepared-frame, along-frame, keeps-seen, KeepsAfter, keeps-frame, with-kept, with-keeps, with-whole, AlongAfter, along-node}
 
 -- The three counts of a spine, one node at a time.
 widest-node : (a : Side) (o : Role) (k : ℕ) (h : Side) (S : Tree) (ps : List Part) → widest (hang draw (assigned o (seen a (hangs k h S))) ∷ ps) ≡ max (widthOn a S) (widest ps)
@@ -63,7 +64,7 @@ or-none false = refl
 -- At the record k of a survey from `root` with the counts g, e and b, which comes from a node of role o on the hand a: the lists were R₀ and W₀, and are R and W.
 pub record Surveying (t : List ℕ) (s : Side) (root : ℕ) (R₀ W₀ R W : List ℕ) (k g e : ℕ) (b : Bool) (a : Side) (o : Role) : Type 0 where
   pub named : Named t k
-  pub coded : Coded R a o (spineOn s (treeAt t k))
+  pub keeps : KeepsAfter R a o (spineOn s (treeAt t k))
   -- what is prepared from here on, with nothing else changed, is prepared from the root on
   pub finish : (R′ W′ : List ℕ) → SameOutside (treeAt t k) R R′ → SameOutside (treeAt t k) W W′ → AlongAfter R′ W′ a o (spineOn s (treeAt t k)) → AlongAfter R′ W′ (opposite s) switch (spineOn s (treeAt t root))
   pub inside : (x : ℕ) → count x (nodes (treeAt t k)) ≤ count x (nodes (treeAt t root))
@@ -86,11 +87,11 @@ size-small t ok k (inl e) = rw (e, tree-none t) (unfold size in omega arith)
 size-small t ok k (inr h) = omega (arith, size-below t ok k h, chain-length t ok, records-bounds t ok)
 
 module _ (t : List ℕ) (ok : fault t ≡ 0) (s : Side) (root : ℕ) where
-  pub start : Named t root → (R W : List ℕ) → length R ≡ 4097 → (R₀ : List ℕ) → R₀ ≡ withRoles (opposite s) switch (spineOn s (treeAt t root)) R → Surveying t s root R₀ W R₀ W root 0 0 false (opposite s) switch
+  pub start : Named t root → (R W : List ℕ) → length R ≡ 4097 → (R₀ : List ℕ) → R₀ ≡ withRoles s (roles (spine (facing s (treeAt t root)))) R → Surveying t s root R₀ W R₀ W root 0 0 false (opposite s) switch
   unfolding widestOn
   start n R W z R₀ e = record {
     named = n;
-    coded = subst (λ (X : List ℕ). Coded X (opposite s) switch ls) (sym e) (with-coded (opposite s) switch ls R (λ x. omega (arith, once t ok root n x, count-spine s x S)) (λ x i. within x i));
+    keeps = subst (λ (X : List ℕ). KeepsAfter X (opposite s) switch ls) (sym (e ∙ with-whole s S R)) (with-keeps (opposite s) switch ls R (λ x. omega (arith, once t ok root n x, count-spine s x S)) (λ x i. within x i));
     finish = λ R′ W′ kr kg l. l;
     inside = λ x. omega arith;
     kept-roles = λ x i. refl;
@@ -116,8 +117,9 @@ module _ (t : List ℕ) (ok : fault t ≡ 0) (s : Side) (root : ℕ) where
     abbrev role : Role
     role = roleAfter o (seen hand (hangs k h (treeAt t hung)))
 
-    pub coded-here : (getD R k 0 ≡ codeOf hand role) × Coded R hand role (spineOn s (treeAt t k′))
-    coded-here = subst (Coded R a o) (d .forks) (v .coded)
+    pub kept-here : (getD R k 0 ≡ codeOf hand role) × KeepsAfter R hand role (spineOn s (treeAt t k′))
+    unfolding rolesAfter
+    kept-here = keeps-seen R hand role k h (treeAt t hung) (rolesAfter hand role (spineOn s (treeAt t k′))) .0 (subst (KeepsAfter R a o) (d .forks) (v .keeps))
 
     counted : (x : ℕ) → count x (nodes (treeAt t k)) ≡ same x k + (count x (nodes (treeAt t hung)) + count x (nodes (treeAt t k′)))
     unfolding countOn
@@ -133,7 +135,7 @@ module _ (t : List ℕ) (ok : fault t ≡ 0) (s : Side) (root : ℕ) where
     unfolding rolesAfter
     pass R′ W′ w m = record {
       named = d .named-spine;
-      coded = coded-frame R R′ hand role ls (coded-here .1) (λ x (i : 1 ≤ countOn x ls). m .kept-roles x (omega (arith, single x, count-spine s x (treeAt t k′))));
+      keeps = keeps-frame R R′ hand role ls (kept-here .1) (λ x (i : 1 ≤ countOn x ls). m .kept-roles x (omega (arith, single x, count-spine s x (treeAt t k′))));
       finish = λ R″ W″ kr kg l. v .finish R″ W″ (λ x i. kr x (omega (arith, counted x)) ∙ m .kept-roles x (omega (arith, counted x))) (λ x i. kg x (omega (arith, counted x)) ∙ m .kept-widest x (omega (arith, counted x)))
           (subst (AlongAfter R″ W″ a o) (sym (d .forks)) (along-node a o k h (treeAt t hung) ls (here R″ kr) (hangs-on R″ W″ kr kg) l));
       inside = λ x. omega (arith, counted x, v .inside x);
@@ -147,7 +149,7 @@ module _ (t : List ℕ) (ok : fault t ≡ 0) (s : Side) (root : ℕ) where
     }
       where
         here : (R″ : List ℕ) → SameOutside (treeAt t k′) R′ R″ → getD R″ k 0 ≡ codeOf hand role
-        here R″ kr = kr k (omega (arith, single k, same-one k k refl)) ∙ m .kept-roles k (omega (arith, single k, same-one k k refl)) ∙ coded-here .0
+        here R″ kr = kr k (omega (arith, single k, same-one k k refl)) ∙ m .kept-roles k (omega (arith, single k, same-one k k refl)) ∙ kept-here .0
 
         hangs-on : (R″ W″ : List ℕ) → SameOutside (treeAt t k′) R′ R″ → SameOutside (treeAt t k′) W′ W″ → Prepared R″ W″ hand (treeAt t hung)
         hangs-on R″ W″ kr kg =
@@ -186,11 +188,11 @@ module _ (t : List ℕ) (ok : fault t ≡ 0) (s : Side) (root : ℕ) where
     root-counted : (x : ℕ) → x ≡ root → 1 + countHung x (spineOn s S) ≤ count x (nodes S)
     root-counted x d = rw (d, tree-unfolds t ok root c) (hung-below s root _ _)
 
-    pub measured : (R₁ : List ℕ) → R₀ ≡ withRoles (opposite s) switch (spineOn s S) R₁ → length W ≡ 4097 → k ≡ 0 → (w : ℕ) → w ≡ cond b (g + 3) e → Measured t s root R₁ W₀ R (set W root g) w
+    pub measured : (R₁ : List ℕ) → R₀ ≡ withRoles s (roles (spine (facing s S))) R₁ → length W ≡ 4097 → k ≡ 0 → (w : ℕ) → w ≡ cond b (g + 3) e → Measured t s root R₁ W₀ R (set W root g) w
     measured R₁ i l z w j = record {
       wide = j ∙ wide-whole z;
       prepared = top (tree-unfolds t ok root c);
-      kept-roles = λ x n. v .kept-roles x n ∙ (ap (λ (X : List ℕ). getD X x 0) i ∙ with-kept (opposite s) switch (spineOn s S) R₁ x (sym (count-spine s x S) ∙ n));
+      kept-roles = λ x n. v .kept-roles x n ∙ (ap (λ (X : List ℕ). getD X x 0) (i ∙ with-whole s S R₁) ∙ with-kept (opposite s) switch (spineOn s S) R₁ x (sym (count-spine s x S) ∙ n));
       kept-widest = λ x n. getD-set-other W root x g 0 (λ d. omega (arith, root-counted x d)) ∙ v .kept-widest x n;
     }
       where
@@ -226,7 +228,7 @@ measured-small t ok {s} {k} n m = omega (arith, m .wide, width-small s (treeAt t
 
 module _ (t : List ℕ) (ok : fault t ≡ 0) (s : Side) (root : ℕ) {R₀ W₀ R W : List ℕ} {v : Survey} (c : Measuring t s root R₀ W₀ R W v) {next hung : ℕ} {h : Side} (d : Forked t s (v .at) next hung h) where
   pub role-small : getD R (v .at) 0 < 6
-  role-small = omega (arith, coded-here t ok s root (c .surveying) d .0, code-small (hand t ok s root (c .surveying) d) (role t ok s root (c .surveying) d))
+  role-small = omega (arith, kept-here t ok s root (c .surveying) d .0, code-small (hand t ok s root (c .surveying) d) (role t ok s root (c .surveying) d))
 
   pub step : (r : CodeRole) → getD R (v .at) 0 ≡ codeOf (handOf r) (roleOf r) → (u : Side) → u ≡ handOf r → (R′ W′ : List ℕ) (w : ℕ) → length R′ ≡ length R → length W′ ≡ length W → Measured t u hung R W R′ W′ w →
       (v′ : Survey) → Longer v r w next v′ → Measuring t s root R₀ W₀ R′ W′ v′
@@ -240,4 +242,4 @@ module _ (t : List ℕ) (ok : fault t ≡ 0) (s : Side) (root : ℕ) {R₀ W₀ 
   }
     where
       same : (handOf r ≡ hand t ok s root (c .surveying) d) × (roleOf r ≡ role t ok s root (c .surveying) d)
-      same = code-same _ _ _ _ (sym e ∙ coded-here t ok s root (c .surveying) d .0)
+      same = code-same _ _ _ _ (sym e ∙ kept-here t ok s root (c .surveying) d .0)

@@ -1,6 +1,7 @@
 // Every spine of a drawing measured: left-side and right-side drawings in turn, through what hangs from their spines.
+// "004" is document 004, "01" document 01.
+use crate::choosing::choose_roles;
 use crate::fork_at;
-use crate::roles::choose_roles;
 use crate::roles::is_right;
 use crate::roles::role_at;
 use crate::survey::Survey;
@@ -11,10 +12,10 @@ ghost use lib.ListN.{length};
 ghost use Rattle.table.specs.Table.{left, right, Chained};
 ghost use Rattle.table.specs.Refusal.{fault};
 ghost use Rattle.measure.specs.inner.Sized.{Named, Sized};
-ghost use Rattle.measure.specs.inner.Forked.{sideOf};
+ghost use Rattle.measure.specs.Chosen.{sideOf};
 ghost use Rattle.measure.specs.inner.Measured.{Measured};
 
-// A hung subtree, 0 for none, for a drawing on the left side or on the right.
+// 004, Step 3; 01, step 3: a hung subtree, 0 for none, for a drawing on the left side or on the right.
 fn measure_hung(
     table: &[u8],
     sizes: &[u16],
@@ -39,7 +40,7 @@ fn measure_hung(
     measure_left(table, sizes, roles, widest, child)
 }
 
-// A subtree for a drawing on the left side.
+// 004, Step 3(a) to (c): a subtree for a drawing on the left side.
 pub fn measure_left(
     table: &[u8],
     sizes: &[u16],
@@ -57,7 +58,7 @@ pub fn measure_left(
     measure_spine(table, sizes, roles, widest, root, false)
 }
 
-// A subtree for a drawing on the right side.
+// 004, Step 3(d): a subtree for a drawing on the right side.
 fn measure_right(
     table: &[u8],
     sizes: &[u16],
@@ -75,7 +76,7 @@ fn measure_right(
     measure_spine(table, sizes, roles, widest, root, true)
 }
 
-// The roles of the spine first, then what hangs from it, then its W.
+// 004, Steps 2 to 4: the roles of the spine first, then what hangs from it, then its W.
 fn measure_spine(
     table: &[u8],
     sizes: &[u16],

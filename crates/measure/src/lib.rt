@@ -1,4 +1,5 @@
-// Spines measured before they are drawn: the roles of every spine, and its W.
+// Spines measured before they are drawn: the roles of every spine, and its W. "004" is document 004, "01" document 01.
+mod choosing;
 mod hung;
 pub mod roles;
 mod survey;
@@ -12,9 +13,11 @@ ghost use Prim.Native.Nat.{max};
 ghost use lib.Dec.{leb, ltb};
 ghost use lib.ListN.{length};
 ghost use Rattle.table.specs.Table.{left as leftSide, Chained};
+ghost use Rattle.table.specs.Tree.{treeAt};
 ghost use Rattle.table.specs.Refusal.{fault};
 ghost use Rattle.measure.specs.inner.Sized.{Sized};
-ghost use Rattle.measure.specs.inner.Forked.{Forked, sideOf};
+ghost use Rattle.measure.specs.Chosen.{sideOf, Handed};
+ghost use Rattle.measure.specs.inner.Forked.{Forked};
 ghost use Rattle.measure.specs.inner.Measured.{Measured};
 
 // The child that a spine goes on to, the child off the spine, 0 for none, and whether that one is the right child.
@@ -30,7 +33,7 @@ pub fn most(a: usize, b: usize) -> usize
     if a < b { b } else { a }
 }
 
-// Whether a spine goes on to the right child, from the sizes of the two subtrees: of equal ones it takes that on its side.
+// 004, Step 1; 01, "The spine goes ..": whether a spine goes on to the right child, from the sizes of the two subtrees: of equal ones it takes that on its side.
 fn goes_right(a: u16, b: u16, mirrored: bool) -> bool
     ensures { λ r. ⌜ r ≡ cond mirrored (leb a b) (ltb a b) ⌝ }
 {
@@ -40,7 +43,7 @@ fn goes_right(a: u16, b: u16, mirrored: bool) -> bool
     a < b
 }
 
-// The fork of a spine at a node, in a drawing on the left side or on the right.
+// 004, Step 1: the fork of a spine at a node, in a drawing on the left side or on the right.
 pub fn fork_at(table: &[u8], sizes: &[u16], at: usize, mirrored: bool) -> Fork
     requires { ⌜ fault (now table) ≡ 0 ⌝ }
     requires { ⌜ Chained (now table) at ⌝ }
@@ -63,7 +66,7 @@ pub fn fork_at(table: &[u8], sizes: &[u16], at: usize, mirrored: bool) -> Fork
     }
 }
 
-// The roles of every spine and its W, for the drawing of the tree from `root` on. Answers the drawing's width.
+// 004, Steps 1 to 4, for every spine of the drawing of the tree from `root` on: its roles and its W, which placing is handed. Answers the drawing's width.
 pub fn prepare(
     table: &[u8],
     sizes: &[u16],
@@ -75,7 +78,8 @@ pub fn prepare(
     requires { ⌜ Chained (now table) root ⌝ }
     requires { ⌜ Sized (now table) (now sizes) ⌝ }
     requires { ⌜ (length (now roles) ≡ 4097) × (length (now widest) ≡ 4097) ⌝ }
-    ensures { λ r. ⌜ Measured (now (table .entry)) leftSide root
+    ensures { λ r. ⌜ Handed (now (roles .exit)) leftSide (treeAt (now (table .entry)) root)
+        × Measured (now (table .entry)) leftSide root
         (now (roles .entry)) (now (widest .entry)) (now (roles .exit)) (now (widest .exit)) r ⌝ }
 {
     measure_left(table, sizes, roles, widest, root)

@@ -1,4 +1,4 @@
-// A survey of a spine: how wide its drawing will be.
+// A survey of a spine: its W, and how wide its drawing will be. "004" is document 004, "01" document 01.
 use crate::most;
 use crate::roles::Role;
 use crate::roles::edge_of;
@@ -31,7 +31,7 @@ fn turned_at(role: Role, turned: bool) -> bool
     }
 }
 
-// Past a node of the given role, from which a drawing of the given width hangs.
+// 004, Step 4; 01, "W is ..": past a node of the given role, from which a drawing of the given width hangs.
 pub fn past(survey: Survey, role: Role, width: usize, next: usize) -> Survey
     requires { ⌜ width < 65536 ⌝ }
     ensures { λ r. ⌜ Longer survey role width next r ⌝ }

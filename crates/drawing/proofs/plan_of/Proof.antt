@@ -13,7 +13,7 @@ small c =
     let measured = c .before .before .before .before .before .before .before .before .before in
     let first = measured .before .before .before in
     let s = first .before .before .before .before .before in
-    small-plan _ (s .pre .0) _ (first .left .ensures .0) _ _ _ _ _ (s .pre .1 .1 .1 .1 .1) (measured .prepare .ensures .wide) (c .before .before .draw-tree .ensures)
+    small-plan _ (s .pre .0) _ (first .left .ensures .0) _ _ _ _ _ (s .pre .1 .1 .1 .1 .1) (measured .prepare .ensures .1 .wide) (c .before .before .draw-tree .ensures)
 
 left-requires : tie.Need-left-requires
 left-requires c κs =
@@ -44,7 +44,7 @@ draw-tree-requires c κs =
         long-widest = measured .prepare .kept .1 .1 .1 .0;
         enough = s .pre .1 .1 .1 .1 .0;
       },
-      hanging-root _ (s .pre .0) _ (first .left .ensures .0) _ _ (s .pre .1 .0) (measured .prepare .ensures .prepared),
+      hanging-root _ (s .pre .0) _ (first .left .ensures .0) _ _ (s .pre .1 .0) (measured .prepare .ensures .1 .prepared),
     )
 
 cast-t20 : tie.Need-cast-t20
@@ -67,7 +67,7 @@ returns c =
     let measured = c .before .before .before .before .before .before .before .before .before in
     let first = measured .before .before .before in
     let s = first .before .before .before .before .before in
-    plan-drawn _ _ _ _ _ _ _ (first .left .ensures .0) (s .pre .1 .1 .1 .1 .1) (measured .prepare .ensures .wide) (c .before .before .draw-tree .ensures)
+    plan-drawn _ _ _ _ _ _ _ (first .left .ensures .0) (s .pre .1 .1 .1 .1 .1) (measured .prepare .ensures .1 .wide) (c .before .before .draw-tree .ensures)
 
 pub plan-of-spec : {M : Type 1} → statement M
 plan-of-spec =

@@ -1,7 +1,7 @@
 -- Placing, for the contracts of the drawer's inner functions: what is asked before a subtree is drawn, and what is left of a spine on the way. Nothing here
 -- need be believed: the drawer's contract does not cite it.
 use mathlib.Core.Path.{_≡_}
-use mathlib.Core.Bool.{Bool, true, false}
+use mathlib.Core.Bool.{Bool}
 use mathlib.Core.List.{List, [], _∷_}
 use Prim.Native.Nat.{ℕ, _+_, _*_, _≤_, _<_}
 use lib.ListN.{length}
@@ -13,15 +13,10 @@ use Rattle.layout.specs.Spine.{SpineNode, Role, knee, ordinary, switch}
 use Rattle.layout.specs.Drawing.{Rest}
 use Rattle.layout.specs.inner.Held.{inwards, hungOn, heightOn, widthOn, spineOn, lay, bottom, Inside, Rooms}
 use Rattle.measure.specs.inner.Sized.{Named, Sized}
-use Rattle.measure.specs.inner.Forked.{sideOf}
+use Rattle.measure.specs.Chosen.{sideOf}
 use Rattle.measure.specs.inner.Prepared.{Prepared, Along}
 use Rattle.drawing.specs.declared.place.Walk.{Walk}
 use Rattle.drawing.specs.Answer.{store}
-
-abbrev pub isKnee : Role → Bool
-isKnee knee = true
-isKnee ordinary = false
-isKnee switch = false
 
 -- The lists are those of an accepted table, and the placements are enough.
 pub record Given (t sizes roles widest p : List ℕ) : Type 0 where

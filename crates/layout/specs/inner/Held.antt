@@ -9,14 +9,9 @@ use lib.Dec.{leb}
 use Rattle.segment.specs.Segment.{at}
 use Rattle.table.specs.Table.{Side, left, right}
 use Rattle.table.specs.Tree.{Tree, none, node, size}
-use Rattle.layout.specs.Layout.{Layout, blank, placed, width, height, mirror}
-use Rattle.layout.specs.Spine.{SpineNode, hangs, Role, knee, ordinary, switch, opposite, seen, roleAfter, Assigned, assigned, rolesAfter}
+use Rattle.layout.specs.Layout.{Layout, blank, placed, width, height}
+use Rattle.layout.specs.Spine.{SpineNode, hangs, Role, knee, ordinary, switch, opposite, facing, seen, roleAfter, Assigned, assigned, rolesAfter}
 use Rattle.layout.specs.Drawing.{hang, widest, join, Rest, draw}
-
--- The tree as a side sees it.
-unfoldable pub facing : Side → Tree → Tree
-facing left t = t
-facing right t = mirror t
 
 -- k columns inwards from the edge e of a side.
 unfoldable pub inwards : Side → ℕ → ℕ → ℕ
@@ -114,10 +109,15 @@ abbrev pub Inside : (B : ℕ) → Side → (e w : ℕ) → Type 0
 Inside B left e w = e + w ≤ B
 Inside B right e w = (w ≤ suc e) × (suc e ≤ B)
 
--- So are those of each spine node from here on, and of what hangs from it. At a switch the whole frame is, and the other hand's edge f is W + 2 columns inwards.
+-- The spine goes on.
+abbrev pub GoesOn : List SpineNode → Type 0
+GoesOn [] = ⊥
+GoesOn (l ∷ ls) = Unit {0}
+
+-- So are those of each spine node from here on, and of what hangs from it. At a switch the whole frame is, the other hand's edge f is W + 2 columns inwards, and a node of that hand follows.
 pub data Rooms (B W : ℕ) : Side → (e f : ℕ) → Role → List SpineNode → Type 0 where
   no-rooms : {a : Side} {e f : ℕ} {o : Role} → Rooms B W a e f o []
   knee-room : {a s : Side} {e f k : ℕ} {S : Tree} {ls : List SpineNode} → Inside B a e (1 + widthOn a S) → Rooms B W a e f (roleNext a knee ls) ls → Rooms B W a e f knee (hangs k s S ∷ ls)
   ordinary-room : {a s : Side} {e f k : ℕ} {S : Tree} {ls : List SpineNode} → Inside B a e (2 + widthOn a S) → Rooms B W a e f (roleNext a ordinary ls) ls → Rooms B W a e f ordinary (hangs k s S ∷ ls)
-  switch-room : {a s : Side} {e f k : ℕ} {S : Tree} {ls : List SpineNode} → widthOn a S ≤ W → Inside B a e (W + 3) → Exact a e f (W + 2) →
+  switch-room : {a s : Side} {e f k : ℕ} {S : Tree} {ls : List SpineNode} → GoesOn ls → widthOn a S ≤ W → Inside B a e (W + 3) → Exact a e f (W + 2) →
       Rooms B W (opposite a) f e (roleNext (opposite a) switch ls) ls → Rooms B W a e f switch (hangs k s S ∷ ls)

@@ -3,19 +3,11 @@ use mathlib.Core.Path.{_≡_}
 use mathlib.Core.List.{List, [], _∷_}
 use Prim.Native.Nat.{ℕ}
 use lib.ListN.{getD}
-use Rattle.table.specs.Table.{Side, left, right}
+use Rattle.table.specs.Table.{Side}
 use Rattle.table.specs.Tree.{Tree, none, node}
-use Rattle.layout.specs.Spine.{SpineNode, hangs, Role, knee, ordinary, switch, handAfter}
+use Rattle.layout.specs.Spine.{SpineNode, hangs, Role, knee, handAfter}
 use Rattle.layout.specs.inner.Held.{spineOn, roleNext, widestOn}
-
--- The number of a role on a hand: left knee, ordinary-left, switch-right, right knee, ordinary-right, switch-left.
-abbrev pub codeOf : Side → Role → ℕ
-codeOf left knee = 0
-codeOf left ordinary = 1
-codeOf left switch = 2
-codeOf right knee = 3
-codeOf right ordinary = 4
-codeOf right switch = 5
+use Rattle.measure.specs.Chosen.{codeOf}
 
 mutual
   -- The tree is measured for its drawing on the side s: `widest` has W at its root, `roles` the roles of its spine, and so for what hangs from the spine.

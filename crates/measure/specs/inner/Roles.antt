@@ -1,18 +1,15 @@
--- The six roles as the program has them, and how it chooses them along a spine.
+-- The six roles as the program has them, what it asks of one, and how it chooses one, for the contracts of its functions.
 use mathlib.Core.Path.{_≡_}
 use mathlib.Core.Bool.{Bool, true, false}
 use mathlib.Core.Logic.{_↔_}
-use mathlib.Core.List.{List, [], _∷_}
 use Prim.Native.Nat.{ℕ}
-use lib.ListN.{set}
 use Rattle.table.specs.Table.{Side, left, right}
 use Rattle.table.specs.Tree.{Tree, none}
 use Rattle.layout.specs.Spine.{SpineNode, hangs, Role as LayoutRole, knee, ordinary, switch, seen, runRole, roleAfter, handAfter}
 use Rattle.measure.specs.declared.Fork.{Fork}
 use Rattle.measure.specs.declared.roles.Role.{Role}
 use Rattle.measure.specs.declared.roles.Role.the-variants.{LeftKnee, OrdinaryLeft, SwitchRight, RightKnee, OrdinaryRight, SwitchLeft}
-use Rattle.measure.specs.inner.Forked.{sideOf}
-use Rattle.measure.specs.inner.Prepared.{codeOf}
+use Rattle.measure.specs.Chosen.{sideOf}
 
 -- Steps 1, 2 and 7: the hand of each role, and what it is on that hand.
 abbrev pub handOf : Role → Side
@@ -30,6 +27,11 @@ roleOf SwitchRight = switch
 roleOf RightKnee = knee
 roleOf OrdinaryRight = ordinary
 roleOf SwitchLeft = switch
+
+abbrev pub isKnee : LayoutRole → Bool
+isKnee knee = true
+isKnee ordinary = false
+isKnee switch = false
 
 abbrev pub isSwitch : LayoutRole → Bool
 isSwitch knee = false
@@ -52,8 +54,3 @@ pub record Runs (a : Side) (f : Fork) (r : Role) : Type 0 where
 pub record Follows (b : Role) (f : Fork) (r : Role) : Type 0 where
   pub hand : handOf r ≡ handAfter (roleOf b) (handOf b)
   pub role : (k : ℕ) (S : Tree) → Stands f S → roleOf r ≡ roleAfter (roleOf b) (seen (handOf r) (nodeOf f k S))
-
--- Step 2, along the spine: the list, with the roles that follow a node of role o on the hand s kept at their nodes' records.
-unfoldable pub withRoles : Side → LayoutRole → List SpineNode → List ℕ → List ℕ
-withRoles s o [] rs = rs
-withRoles s o (hangs k h S ∷ ls) rs = let s′ = handAfter o s in let o′ = roleAfter o (seen s′ (hangs k h S)) in withRoles s′ o′ ls (set rs k (codeOf s′ o′))

@@ -8,7 +8,7 @@ use lib.ListN.{length-set}
 use borrow.Fn.Kinds.{In}
 use borrow.Fn.PlainCycle.{Measures, is, falls, and}
 use Rattle.table.specs.Tree.{size, treeAt}
-use Rattle.measure.specs.inner.Forked.{sideOf}
+use Rattle.measure.specs.Chosen.{sideOf}
 use Rattle.measure.proofs.Forks.{named-within}
 use Rattle.measure.proofs.Spines.{chained}
 use Rattle.measure.proofs.Surveys.{Measuring, start, measured-none, measured-small, role-small, size-inside, step, widest-small, measured}
@@ -25,7 +25,7 @@ use Rattle.measure.proofs.hung.measure_spine.Reads as spine
 use Rattle.measure.proofs.hung.measure_spine.Kinds as spine-kinds
 use Rattle.measure.proofs.hung.+measure_hung+measure_left+measure_right+measure_spine.Lts-measure_spine as spine-lts
 use Rattle.measure.proofs.fork_at.Reads as fork-at
-use Rattle.measure.proofs.roles.choose_roles.Reads as choose-roles
+use Rattle.measure.proofs.choosing.choose_roles.Reads as choose-roles
 use Rattle.measure.proofs.roles.is_right.Reads as is-right
 use Rattle.measure.proofs.roles.role_at.Reads as role-at
 use Rattle.measure.proofs.survey.past.Reads as past

@@ -3,7 +3,8 @@ use mathlib.Core.Path.{_∙_}
 use Prim.Native.Nat.{ℕ, _+_}
 use borrow.Author.Needs.{needs}
 use native.Mathlib.Omega.{arith}
-use Rattle.drawing.proofs.Walking.{entry-within, given-kept, hanging-as, column-switch, widest-at-switch, rows-at-switch, hanging-switch, hanging-pending, after-switch}
+use Rattle.measure.proofs.Forks.{named-within}
+use Rattle.drawing.proofs.Walking.{entry-within, given-kept, hanging-as, column-switch, widest-at-switch, rows-at-switch, hanging-switch, hanging-pending, next-role, next-below, after-switch}
 use Rattle.drawing.proofs.place.at_switch.Reads as reads
 use Rattle.drawing.proofs.place.+at_knee+at_ordinary+at_switch+draw_hung+draw_left+draw_right+draw_spine+step.Lts-at_switch as lts
 use Rattle.drawing.proofs.place.+at_knee+at_ordinary+at_switch+draw_hung+draw_left+draw_right+draw_spine+step.Proof.Measures.{at-switch-claims, at-switch-at}
@@ -57,6 +58,13 @@ module _ (t : ℕ) where
       let s = c .before .before .before .before .before .before .before .before .before .before .before .before .before .before .before .before .before .before .before .before in
       column-switch _ _ _ _ _ _ _ (s .pre .1 .1 .1) (s .pre .1 .1 .0) (s .args .w .widest + 2) (omega arith)
 
+  is-right-at-requires : lts.Need-is-right-at-requires (at-switch-claims t) (at-switch-at t) reads.Post
+  is-right-at-requires c κs =
+      let s = c .before .before .before .before .before .before .before .before .before .before .before .before .before .before .before .before .before .before .before .before .before in
+      let given = s .pre .1 .0 in
+      let fork = s .pre .1 .1 .1 in
+      (omega (arith, named-within _ (given .sound) _ (fork .named-spine), given .long-roles), next-below _ _ _ _ _ _ _ fork (given .sound) (s .pre .1 .1 .0))
+
   same-length : lts.Need-same-length (at-switch-claims t) (at-switch-at t) reads.Post
   same-length c = search needs
 
@@ -67,7 +75,8 @@ module _ (t : ℕ) where
       let point = hung .before .before .before .before .before in
       let in1 = point .before in
       let s = in1 .before .before .before .before .before .before .before in
-      after-switch _ _ _ _ _ _ _ (s .pre .1 .1 .1) _ _ _ _ _ _ _ _ (in1 .inwards .ensures .0) (point .set-point .ensures) (hung .draw-hung .ensures) (pending .draw-hung2 .ensures) (c .before .inwards2 .ensures .0) (s .pre .1 .1 .0)
+      after-switch _ _ _ _ _ _ _ (s .pre .1 .1 .1) _ _ _ _ _ _ _ _ _ (in1 .inwards .ensures .0) (point .set-point .ensures) (hung .draw-hung .ensures) (pending .draw-hung2 .ensures) (c .before .inwards2 .ensures .0)
+      (c .is-right-at .ensures _ _ (next-role _ _ _ _ _ _ _ (s .pre .1 .1 .1) (s .pre .1 .0 .sound) (s .pre .1 .1 .0))) (s .pre .1 .1 .0)
 
 pub at-switch-closed : {M : Type 1} (t : ℕ) → lts.Closed (at-switch-claims t) (at-switch-at t) reads.Post M
 at-switch-closed t =
@@ -83,5 +92,6 @@ at-switch-closed t =
     (sub-lowest t)
     (add-inwards t)
     (inwards-requires-2 t)
+    (is-right-at-requires t)
     (same-length t)
     (returns t)

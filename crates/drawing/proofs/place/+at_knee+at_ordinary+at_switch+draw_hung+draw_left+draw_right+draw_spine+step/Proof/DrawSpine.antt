@@ -6,42 +6,47 @@ use native.Mathlib.Nat.{pos-of-ne-zero}
 use Rattle.table.specs.Tree.{size, treeAt}
 use Rattle.measure.proofs.Forks.{named-within}
 use Rattle.drawing.proofs.Walking.{size-none, given-kept}
-use Rattle.drawing.proofs.Starting.{going-start, hung-start, hanging-end, SoFar, walked-start, walked-on, walked-end}
+use Rattle.drawing.proofs.Starting.{root-below, going-start, hung-start, hanging-end, SoFar, walked-start, walked-on, walked-end}
 use Rattle.drawing.proofs.place.draw_spine.Reads as reads
 use Rattle.drawing.proofs.place.+at_knee+at_ordinary+at_switch+draw_hung+draw_left+draw_right+draw_spine+step.Lts-draw_spine as lts
 use Rattle.drawing.proofs.place.+at_knee+at_ordinary+at_switch+draw_hung+draw_left+draw_right+draw_spine+step.Proof.Measures.{draw-spine-claims, draw-spine-at}
 
 abbrev Inv-loop : lts.InvT-loop
-Inv-loop table sizes roles widest points₀ root edge top mirrored w₀ points w = SoFar table roles widest points₀ w₀ points w
+Inv-loop table sizes roles widest points₀ root edge top mirrored right w₀ points w = SoFar table roles widest points₀ w₀ points w
 
 abbrev μ-loop : lts.MeasureT-loop
-μ-loop table sizes roles widest points₀ root edge top mirrored w₀ points w = size (treeAt table (w .at))
+μ-loop table sizes roles widest points₀ root edge top mirrored right w₀ points w = size (treeAt table (w .at))
 
 module _ (t : ℕ) where
-  mul-t12 : lts.Need-mul-t12 (draw-spine-claims t) (draw-spine-at t) reads.Post Inv-loop μ-loop
-  mul-t12 c =
+  is-right-at-requires : lts.Need-is-right-at-requires (draw-spine-claims t) (draw-spine-at t) reads.Post Inv-loop μ-loop
+  is-right-at-requires c κs =
       let s = c .before .before .before .before .before in
+      (omega (arith, named-within _ (s .pre .1 .0 .sound) _ (s .pre .1 .1 .0 .named), s .pre .1 .0 .long-roles), root-below _ _ _ (s .pre .1 .0 .sound) (s .args .mirrored) _ _ _ (s .pre .1 .1 .0) (s .pre .1 .1 .1))
+
+  mul-t13 : lts.Need-mul-t13 (draw-spine-claims t) (draw-spine-at t) reads.Post Inv-loop μ-loop
+  mul-t13 c =
+      let s = c .before .before .before .before .before .before in
       omega (arith, named-within _ (s .pre .1 .0 .sound) _ (s .pre .1 .1 .0 .named))
 
-  shared-slice-read-t14 : lts.Need-shared-slice-read-t14 (draw-spine-claims t) (draw-spine-at t) reads.Post Inv-loop μ-loop
-  shared-slice-read-t14 c =
-      let s = c .before .before .before .before .before .before in
+  shared-slice-read-t15 : lts.Need-shared-slice-read-t15 (draw-spine-claims t) (draw-spine-at t) reads.Post Inv-loop μ-loop
+  shared-slice-read-t15 c =
+      let s = c .before .before .before .before .before .before .before in
       omega (arith, named-within _ (s .pre .1 .0 .sound) _ (s .pre .1 .1 .0 .named), s .pre .1 .0 .long-widest)
 
-  cast-t15 : lts.Need-cast-t15 (draw-spine-claims t) (draw-spine-at t) reads.Post Inv-loop μ-loop
-  cast-t15 c =
-      let s = c .before .before .before .before .before .before in
+  cast-t16 : lts.Need-cast-t16 (draw-spine-claims t) (draw-spine-at t) reads.Post Inv-loop μ-loop
+  cast-t16 c =
+      let s = c .before .before .before .before .before .before .before in
       omega (arith, c .shared-slice-known5 .given (s .args .root))
 
   loop-holds : lts.Need-loop-holds (draw-spine-claims t) (draw-spine-at t) reads.Post Inv-loop μ-loop
   loop-holds c =
-      let s = c .before .before .before .before .before .before in
-      walked-start _ _ _ (s .pre .1 .0 .sound) _ _ (going-start _ _ _ (s .pre .1 .0 .sound) (s .args .mirrored) _ _ _ (s .pre .1 .1 .0) (s .pre .1 .1 .1)) (s .pre .1 .1 .1) refl
+      let s = c .before .before .before .before .before .before .before in
+      walked-start _ _ _ (s .pre .1 .0 .sound) _ _ (going-start _ _ _ (s .pre .1 .0 .sound) (s .args .mirrored) _ _ _ (s .pre .1 .1 .0) (s .pre .1 .1 .1) (c .before .is-right-at .result) (c .before .is-right-at .ensures)) (s .pre .1 .1 .1) refl
 
   step-requires : lts.Need-step-requires (draw-spine-claims t) (draw-spine-at t) reads.Post Inv-loop μ-loop
   step-requires c κs =
       let head = c .before .before .before in
-      let s = head .before .before .before .before .before .before .before in
+      let s = head .before .before .before .before .before .before .before .before in
       let l = head .loop .inv in
       (omega (arith, s .pre .0, l .fewer), (given-kept _ _ _ _ _ _ (l .kept) (s .pre .1 .0), ((l .role, l .going), pos-of-ne-zero (c .before .if1 .taken))))
 
@@ -63,7 +68,7 @@ module _ (t : ℕ) where
   draw-hung-requires : lts.Need-draw-hung-requires (draw-spine-claims t) (draw-spine-at t) reads.Post Inv-loop μ-loop
   draw-hung-requires c κs =
       let head = c .before .before .before .before in
-      let s = head .before .before .before .before .before .before .before in
+      let s = head .before .before .before .before .before .before .before .before in
       let l = head .loop .inv in
       (omega (arith, s .pre .0, l .one-less, size-none (s .args .table .now)), (given-kept _ _ _ _ _ _ (l .kept) (s .pre .1 .0), hanging-end _ _ _ _ (c .before .before .if1 .left) _ (l .going)))
 
@@ -76,8 +81,8 @@ module _ (t : ℕ) where
   returns c =
       let test1 = c .before .before .before .before .before in
       let head = test1 .before .before in
-      let s = head .before .before .before .before .before .before .before in
-      hung-start _ _ _ (s .pre .1 .0 .sound) (s .args .mirrored) _ _ _ (s .pre .1 .1 .0) (s .pre .1 .1 .1) _ _ _
+      let s = head .before .before .before .before .before .before .before .before in
+      hung-start _ _ _ (s .pre .1 .0 .sound) (s .args .mirrored) _ _ _ (s .pre .1 .1 .0) (s .pre .1 .1 .1) (head .before .before .is-right-at .result) (head .before .before .is-right-at .ensures) _ _ _
       (walked-end _ _ _ _ _ _ _ _ _ (head .loop .inv) (test1 .if1 .left) (c .before .before .draw-hung .ensures))
 
 pub draw-spine-closed : {M : Type 1} (t : ℕ) → lts.Closed (draw-spine-claims t) (draw-spine-at t) reads.Post M
@@ -88,9 +93,10 @@ draw-spine-closed t =
     reads.Post
     Inv-loop
     μ-loop
-    (mul-t12 t)
-    (shared-slice-read-t14 t)
-    (cast-t15 t)
+    (is-right-at-requires t)
+    (mul-t13 t)
+    (shared-slice-read-t15 t)
+    (cast-t16 t)
     (loop-holds t)
     (step-requires t)
     (loop-less t)

@@ -32,7 +32,8 @@ use Rattle.measure.proofs.fork_at.Reads as fork-at-reads
 use Rattle.measure.proofs.most.Reads as most-reads
 use Rattle.drawing.proofs.place.inwards.Reads as inwards-reads
 use Rattle.drawing.proofs.place.is_far.Reads as is-far-reads
-use Rattle.drawing.proofs.place.is_knee.Reads as is-knee-reads
+use Rattle.measure.proofs.roles.is_knee.Reads as is-knee-reads
+use Rattle.measure.proofs.roles.is_right_at.Reads as is-right-at-reads
 use Rattle.measure.proofs.roles.is_switch.Reads as is-switch-reads
 use Rattle.drawing.proofs.place.onward.Reads as onward-reads
 use Rattle.measure.proofs.roles.role_at.Reads as role-at-reads
@@ -117,7 +118,7 @@ abbrev pub at-ordinary-claims : ℕ → at-ordinary-lts.Claims
 at-ordinary-claims t = (inwards-reads.Asked, inwards-reads.Learnt, set-point-reads.Asked, set-point-reads.Learnt, draw-hung-below t, draw-hung.Post, most-reads.Asked, most-reads.Learnt, onward-reads.Asked, onward-reads.Learnt)
 
 abbrev pub at-switch-claims : ℕ → at-switch-lts.Claims
-at-switch-claims t = (inwards-reads.Asked, inwards-reads.Learnt, set-point-reads.Asked, set-point-reads.Learnt, draw-hung-below t, draw-hung.Post)
+at-switch-claims t = (inwards-reads.Asked, inwards-reads.Learnt, set-point-reads.Asked, set-point-reads.Learnt, draw-hung-below t, draw-hung.Post, is-right-at-reads.Asked, is-right-at-reads.Learnt)
 
 abbrev pub draw-hung-claims : ℕ → draw-hung-lts.Claims
 draw-hung-claims t = (inwards-reads.Asked, inwards-reads.Learnt, draw-right-below t, draw-right.Post, draw-left-below t, draw-left.Post)
@@ -129,7 +130,7 @@ abbrev pub draw-right-claims : ℕ → draw-right-lts.Claims
 draw-right-claims t = (draw-spine-below t, draw-spine.Post)
 
 abbrev pub draw-spine-claims : ℕ → draw-spine-lts.Claims
-draw-spine-claims t = (step-below t, step.Post, draw-hung-below t, draw-hung.Post)
+draw-spine-claims t = (is-right-at-reads.Asked, is-right-at-reads.Learnt, step-below t, step.Post, draw-hung-below t, draw-hung.Post)
 
 abbrev pub step-claims : ℕ → step-lts.Claims
 step-claims t = (fork-at-reads.Asked, fork-at-reads.Learnt, role-at-reads.Asked, role-at-reads.Learnt, is-knee-reads.Asked, is-knee-reads.Learnt, at-knee-below t, at-knee.Post, is-switch-reads.Asked, is-switch-reads.Learnt, at-switch-below t, at-switch.Post, at-ordinary-below t, at-ordinary.Post)

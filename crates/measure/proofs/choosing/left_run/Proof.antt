@@ -1,12 +1,12 @@
--- `measure::roles::left_run` meets its contract. Rests on Choices.
+-- `measure::choosing::left_run` meets its contract. Rests on Choices.
 use mathlib.Core.Path.{refl, ap}
 use mathlib.Core.Logic.{inl, inr}
 use Rattle.table.specs.Table.{left}
 use Rattle.layout.specs.Spine.{opposite}
-use Rattle.measure.specs.inner.Forked.{sideOf}
+use Rattle.measure.specs.Chosen.{sideOf}
 use Rattle.measure.proofs.Choices.{ordinary-runs, switch-runs}
-use Rattle.measure.proofs.roles.left_run.Statement.{statement}
-use Rattle.measure.proofs.roles.left_run.Tie as tie
+use Rattle.measure.proofs.choosing.left_run.Statement.{statement}
+use Rattle.measure.proofs.choosing.left_run.Tie as tie
 
 returns : tie.Need-returns
 returns c = ordinary-runs left _ _ refl refl (inl (c .if1 .taken))

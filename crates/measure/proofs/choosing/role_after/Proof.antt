@@ -1,11 +1,11 @@
--- `measure::roles::role_after` meets its contract. Rests on Choices.
+-- `measure::choosing::role_after` meets its contract. Rests on Choices.
 use mathlib.Core.Path.{sym, ap, _∙_}
 use borrow.Author.Needs.{needs}
 use Rattle.table.specs.Table.{left, right}
-use Rattle.measure.specs.inner.Forked.{sideOf}
+use Rattle.measure.specs.Chosen.{sideOf}
 use Rattle.measure.proofs.Choices.{follows-switch, follows-run}
-use Rattle.measure.proofs.roles.role_after.Statement.{statement}
-use Rattle.measure.proofs.roles.role_after.Tie as tie
+use Rattle.measure.proofs.choosing.role_after.Statement.{statement}
+use Rattle.measure.proofs.choosing.role_after.Tie as tie
 
 is-switch-requires : tie.Need-is-switch-requires
 is-switch-requires c κs = search needs
