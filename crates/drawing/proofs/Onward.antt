@@ -1,5 +1,5 @@
 -- One node further along a spine: what is left from there gives the same, and drawing can go on. A lemma for each role, over the hand and the side of the
--- hung child. Rests on Store, Shapes and Columns.
+-- hung child. Rests on StoredOrder, Shapes and Columns.
 use mathlib.Core.Path.{_≡_, refl, ap, sym, subst, _∙_}
 use mathlib.Core.Bool.{Bool, true, false}
 use mathlib.Core.List.{List, [], _∷_}

@@ -1,4 +1,4 @@
-// Placing (document 004, Steps 5 and 6; document 01, steps 3 to 8): the points of a drawing, in the columns and rows of the whole plan, stored among the placements.
+// Placing (document 004, Steps 5 and 6, and the drawings of Step 3; document 01, steps 1 and 3 to 8): the points of a drawing, in the columns and rows of the whole plan, stored among the placements.
 // The roles and W of each spine are handed over and only read; placing chooses none. "004" and "01" below are these documents, whose steps have numbers of their own.
 use measure::Fork;
 use measure::fork_at;
@@ -11,14 +11,15 @@ ghost use mathlib.Core.Path.{_≡_};
 ghost use Prim.Native.Nat.{_+_, _*_, _<_};
 ghost use lib.ListN.{length};
 ghost use Rattle.table.specs.Table.{left, right};
+ghost use Rattle.table.specs.Tree.{treeAt};
 ghost use Rattle.layout.specs.Spine.{Role as LayoutRole, knee, ordinary, switch};
 ghost use Rattle.layout.specs.inner.Entries.{withPoint};
 ghost use Rattle.layout.specs.inner.Held.{inwards as inwardsOf, far, Inside};
-ghost use Rattle.measure.specs.Chosen.{sideOf};
+ghost use Rattle.measure.specs.Chosen.{sideOf, Handed};
 ghost use Rattle.measure.specs.inner.Forked.{Forked};
 ghost use Rattle.drawing.specs.inner.Placing.{handAt, walkTo, Given, Hanging, Hung, Going, Stepped};
 
-// A walk along the spine of a drawing: the next node and its row, the lowest row used so far (H), the pending child, 0 for none; the hand that the node
+// A walk along the spine of a drawing: the next node and its row, the lowest row used so far, the pending child, 0 for none; the hand that the node
 // is on, by its role, and that hand's edge; W of the spine, and whether its drawing is on the right side.
 pub struct Walk {
     pub at: usize,
@@ -156,7 +157,7 @@ fn at_switch(
     }
 }
 
-// 004, Step 6, for one node of a spine: it and what hangs from it, or was pending, by its role.
+// 004, Step 6; 01, steps 4 to 7: one node of a spine, it and what hangs from it, or was pending, by its role.
 fn step(
     table: &[u8],
     sizes: &[u16],
@@ -283,7 +284,7 @@ fn draw_hung(
     }
 }
 
-// 004, Step 5; 01, step 1: the drawing of the whole tree, on the left side, from column 0 and row 0 on. Answers its height.
+// 004, Step 5; 01, step 1: the drawing of the whole tree, on the left side, from column 0 and row 0 on, by the roles of its spines. Answers its height.
 pub fn draw_tree(
     table: &[u8],
     sizes: &[u16],
@@ -292,6 +293,7 @@ pub fn draw_tree(
     points: &mut [u16],
     root: usize,
 ) -> usize
+    requires { ⌜ Handed (now roles) left (treeAt (now table) root) ⌝ }
     requires { ⌜ Given (now table) (now sizes) (now roles) (now widest) (now points) ⌝ }
     requires { ⌜ Hanging (now table) (now roles) (now widest) left root 0 0 0 ⌝ }
     ensures { λ r. ⌜ Hung (now (table .entry)) left root 0 0 (now (points .entry)) r (now (points .exit)) ⌝ }

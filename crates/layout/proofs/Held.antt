@@ -10,7 +10,7 @@ use Rattle.table.specs.Tree.{Tree, size}
 use Rattle.layout.specs.Layout.{Layout, blank, placed, width, height, shift, flip}
 use Rattle.layout.specs.Spine.{SpineNode, hangs, Role, knee, ordinary, switch, opposite, seen, roleAfter, handAfter, assigned, rolesAfter, facing}
 use Rattle.layout.specs.Drawing.{Part, part, hang, widest, join, place, draw}
-use Rattle.layout.specs.inner.Held.{inwards, put, hungOn, heightOn, widthOn, spineOn, roleNext, far, lay, rolesOn, widestOn, Frame, Fit, Exact, bottom, Inside, GoesOn, Rooms, no-rooms, knee-room, ordinary-room, switch-room}
+use Rattle.layout.specs.inner.Held.{inwards, put, hungOn, heightOn, widthOn, spineOn, roleNext, far, lay, rolesFrom, widestOn, Frame, Fit, Exact, bottom, Inside, GoesOn, Rooms, no-rooms, knee-room, ordinary-room, switch-room}
 use Rattle.layout.proofs.Motions.{width-shift, width-shifted, width-flip}
 use Rattle.layout.proofs.Rows.{shape, count, size-facing}
 use Rattle.layout.proofs.Steps.{wide-join}
@@ -42,8 +42,8 @@ tell s o (light-node {l} {ls} f g i) =
     let o′ = roleAfter o (seen s′ l) in
     tell-one s′ o′ l (goes-on o (seen s′ l) ls (omega (arith, size-seen s′ l))) (tell s′ o′ i)
 
-told-on : {n : ℕ} (s : Side) {ls : List SpineNode} → Light n ls → Told s knee ls (map (hang draw) (rolesOn s ls))
-unfolding rolesOn handAfter
+told-on : {n : ℕ} (s : Side) {ls : List SpineNode} → Light n ls → Told s knee ls (map (hang draw) (rolesFrom s knee ls))
+unfolding rolesFrom handAfter
 told-on s light-end = ended
 told-on s (light-node {l} f g i) = tell-one s knee l tt (tell s knee i)
 

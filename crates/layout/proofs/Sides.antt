@@ -1,4 +1,4 @@
--- A drawing on a side, from the tree as it stands: its parts (`parts-on`, `draw-on`), and its records and links (`shape-hung`). A drawing held by its right edge is that of
+-- A drawing on a side, from the tree as it stands: its roles (`roles-on`), its parts (`parts-on`, `draw-on`), and its records and links (`shape-hung`). A drawing held by its right edge is that of
 -- the mirror image, flipped and shifted (`put-held`).
 use mathlib.Core.Path.{_≡_, refl, ap, sym, _∙_, ap₂}
 use mathlib.Core.List.{List, [], _∷_, map}
@@ -10,7 +10,7 @@ use Rattle.table.specs.Tree.{Tree, none, node, size}
 use Rattle.layout.specs.Layout.{Layout, blank, placed, width, shift, flip, mirror, height}
 use Rattle.layout.specs.Spine.{SpineNode, hangs, spine, Role, knee, ordinary, switch, opposite, seen, roleAfter, handAfter, Assigned, assigned, rolesAfter, roles, facing}
 use Rattle.layout.specs.Drawing.{Part, hang, join, draw, drawing}
-use Rattle.layout.specs.inner.Held.{inwards, put, hungOn, spineOn, rolesOn, Exact, heightOn, widthOn}
+use Rattle.layout.specs.inner.Held.{inwards, put, hungOn, spineOn, rolesFrom, Exact, heightOn, widthOn}
 use Rattle.layout.proofs.Rows.{mirror-twice, shape, facing-twice}
 use Rattle.layout.proofs.Spines.{parts, spine-on, first-knee}
 use Rattle.layout.proofs.Whole.{drawn, whole, draw-parts}
@@ -52,21 +52,21 @@ side-right left = refl
 side-right right = refl
 
 -- The first node is a knee of the drawing's side, as after a switch of the other hand.
-pub first-on : (s : Side) (ls : List SpineNode) → rolesAfter (opposite s) switch ls ≡ rolesOn s ls
-unfolding rolesAfter rolesOn handAfter roleAfter opposite
+pub first-on : (s : Side) (ls : List SpineNode) → rolesAfter (opposite s) switch ls ≡ rolesFrom s knee ls
+unfolding rolesAfter rolesFrom handAfter roleAfter opposite
 first-on s [] = refl
 first-on left (l ∷ ls) = refl
 first-on right (l ∷ ls) = refl
 
 -- The roles of a spine on a side are those of the spine that the side sees.
-pub roles-on : (s : Side) (S : Tree) → roles (spine (facing s S)) ≡ rolesOn s (spineOn s S)
+pub roles-on : (s : Side) (S : Tree) → roles (spine (facing s S)) ≡ rolesFrom s knee (spineOn s S)
 roles-on s S =
     first-knee (spine (facing s S))
     ∙ (ap (rolesAfter right switch) (spine-on s S) ∙ (roles-seen s right switch (spineOn s S) ∙ (ap (λ (z : Side). rolesAfter z switch (spineOn s S)) (side-right s) ∙ first-on s (spineOn s S))))
 
 -- The parts of a drawing on a side, and the drawing from them.
 abbrev pub partsOn : Side → Tree → List Part
-partsOn s S = map (hang draw) (rolesOn s (spineOn s S))
+partsOn s S = map (hang draw) (rolesFrom s knee (spineOn s S))
 
 pub parts-on : (s : Side) (S : Tree) → parts draw right switch (spine (facing s S)) ≡ partsOn s S
 parts-on s S = ap (map (hang draw)) (sym (first-knee (spine (facing s S))) ∙ roles-on s S)

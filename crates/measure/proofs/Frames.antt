@@ -32,6 +32,16 @@ unfoldable pub countHung : ℕ → List SpineNode → ℕ
 countHung x [] = 0
 countHung x (hangs k h S ∷ ls) = count x (nodes S) + countHung x ls
 
+-- How often it is a node of the spine itself.
+unfoldable pub countAlong : ℕ → List SpineNode → ℕ
+countAlong x [] = 0
+countAlong x (hangs k h S ∷ ls) = same x k + countAlong x ls
+
+pub along-on : (x : ℕ) (ls : List SpineNode) → countAlong x ls ≤ countOn x ls
+unfolding countOn countAlong
+along-on x [] = omega arith
+along-on x (hangs k h S ∷ ls) = omega (arith, along-on x ls)
+
 pub hung-on : (x : ℕ) (ls : List SpineNode) → countHung x ls ≤ countOn x ls
 unfolding countOn countHung
 hung-on x [] = omega arith
@@ -125,9 +135,9 @@ keeps-frame R R′ s o (hangs k h S ∷ ls) c f =
     let d = keeps-seen R s′ o′ k h S (rolesAfter s′ o′ ls) .0 c in
     keeps-seen R′ s′ o′ k h S (rolesAfter s′ o′ ls) .1 (f k (omega (arith, same-one k k refl)) ∙ d .0, keeps-frame R R′ s′ o′ ls (d .1) (λ x i. f x (omega arith)))
 
--- Keeping the roles of a spine changes nothing elsewhere, and they stand in the list afterwards.
-pub with-kept : (s : Side) (o : Role) (ls : List SpineNode) (R : List ℕ) (x : ℕ) → countOn x ls ≡ 0 → getD (withAfter s o ls R) x 0 ≡ getD R x 0
-unfolding rolesAfter withRoles countOn
+-- Keeping the roles of a spine changes no entry but those of its nodes, and they stand in the list afterwards.
+pub with-kept : (s : Side) (o : Role) (ls : List SpineNode) (R : List ℕ) (x : ℕ) → countAlong x ls ≡ 0 → getD (withAfter s o ls R) x 0 ≡ getD R x 0
+unfolding rolesAfter withRoles countAlong
 with-kept s o [] R x n = refl
 with-kept s o (hangs k h S ∷ ls) R x n =
     let s′ = handAfter o s in
@@ -143,21 +153,21 @@ with-keeps s o (hangs k h S ∷ ls) R d i =
     let rs = rolesAfter s′ o′ ls in
     subst (λ (X : List ℕ). Keeps X s′ (assigned o′ (seen s′ (hangs k h S)) ∷ rs)) (sym (with-seen s′ o′ k h S rs R))
     (keeps-seen (withAfter s′ o′ ls (set R k (codeOf s′ o′))) s′ o′ k h S rs .1 (
-      with-kept s′ o′ ls (set R k (codeOf s′ o′)) k (omega (arith, d k, same-one k k refl)) ∙ getD-set-same R k _ 0 (i k (omega (arith, same-one k k refl))),
+      with-kept s′ o′ ls (set R k (codeOf s′ o′)) k (omega (arith, d k, same-one k k refl, along-on k ls)) ∙ getD-set-same R k _ 0 (i k (omega (arith, same-one k k refl))),
       with-keeps s′ o′ ls (set R k (codeOf s′ o′)) (λ x. omega (arith, d x)) (λ x j. simp length-set (i x (omega arith))),
     ))
 
 -- All the roles of a spine on the side s are those that follow a switch of the other hand.
-after-switch : (s : Side) → handAfter switch (opposite s) ≡ s
+first-hand : (s : Side) → handAfter switch (opposite s) ≡ s
 unfolding handAfter opposite
-after-switch left = refl
-after-switch right = refl
+first-hand left = refl
+first-hand right = refl
 
 roles-after : (s : Side) (S : Tree) → roles (spine (facing s S)) ≡ rolesAfter (opposite s) switch (spineOn s S)
 roles-after s S = roles-on s S ∙ sym (first-on s (spineOn s S))
 
 pub with-whole : (s : Side) (S : Tree) (R : List ℕ) → withRoles s (roles (spine (facing s S))) R ≡ withAfter (opposite s) switch (spineOn s S) R
-with-whole s S R = cc (after-switch s, roles-after s S)
+with-whole s S R = cc (first-hand s, roles-after s S)
 
 -- What is prepared along a spine, after a node of role o on the hand a; with one more node before it.
 abbrev pub AlongAfter : List ℕ → List ℕ → Side → Role → List SpineNode → Type 0

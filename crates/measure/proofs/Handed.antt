@@ -1,25 +1,15 @@
 -- What measuring leaves for placing has the roles of every spine, as `roles` gives them (`handed`). Rests on the laws of a drawing on a side.
-use mathlib.Core.Path.{_≡_, refl, sym, subst, _∙_}
+use mathlib.Core.Path.{_≡_, refl, sym, subst}
 use mathlib.Core.List.{List, [], _∷_}
 use Prim.Native.Nat.{ℕ}
 use lib.ListN.{getD}
 use Rattle.table.specs.Table.{Side, left, right}
 use Rattle.table.specs.Tree.{Tree, none, node}
-use Rattle.layout.specs.Spine.{SpineNode, hangs, Role, knee, facing, seen, handAfter, Assigned, assigned, rolesAfter}
-use Rattle.layout.specs.inner.Held.{spineOn, roleNext, rolesOn}
+use Rattle.layout.specs.Spine.{SpineNode, hangs, Role, facing, seen, handAfter, Assigned, assigned, rolesAfter}
+use Rattle.layout.specs.inner.Held.{spineOn, roleNext, rolesFrom}
 use Rattle.layout.proofs.Sides.{roles-on}
 use Rattle.measure.specs.Chosen.{codeOf, Handed, by-spine, HandedAlong, no-more, one-more}
 use Rattle.measure.specs.inner.Prepared.{Prepared, no-spine, a-spine, Along, ended, onward}
-
--- The roles from a spine node of the hand a and the role o on.
-unfoldable rolesFrom : Side → Role → List SpineNode → List Assigned
-rolesFrom a o [] = []
-rolesFrom a o (l ∷ ls) = assigned o (seen a l) ∷ rolesAfter a o ls
-
-from-first : (s : Side) (ls : List SpineNode) → rolesFrom s knee ls ≡ rolesOn s ls
-unfolding rolesFrom rolesOn
-from-first s [] = refl
-from-first s (l ∷ ls) = refl
 
 from-next : (a : Side) (o : Role) (ls : List SpineNode) → rolesFrom (handAfter o a) (roleNext (handAfter o a) o ls) ls ≡ rolesAfter a o ls
 unfolding rolesFrom rolesAfter roleNext
@@ -35,8 +25,8 @@ mutual
   unfolding rolesFrom spineOn
 
   pub handed : {R W : List ℕ} {s : Side} {S : Tree} → Prepared R W s S → Handed R s (facing s S)
-  handed {R} (no-spine {s}) = by-spine (subst (HandedAlong R s) (from-first s [] ∙ sym (roles-on s none)) no-more)
-  handed {R} (a-spine {s} {k} {a} {b} w l) = by-spine (subst (HandedAlong R s) (from-first s (spineOn s (node k a b)) ∙ sym (roles-on s (node k a b))) (handed-along l))
+  handed {R} (no-spine {s}) = by-spine (subst (HandedAlong R s) (sym (roles-on s none)) no-more)
+  handed {R} (a-spine {s} {k} {a} {b} w l) = by-spine (subst (HandedAlong R s) (sym (roles-on s (node k a b))) (handed-along l))
 
   handed-along : {R W : List ℕ} {a : Side} {o : Role} {ls : List SpineNode} → Along R W a o ls → HandedAlong R a (rolesFrom a o ls)
   handed-along ended = no-more

@@ -1,4 +1,4 @@
--- The list of roles, kept along a spine. Rests on Forks, Choices and Frames.
+-- The list of roles, kept along a spine. Rests on Frames.
 use mathlib.Core.Path.{_≡_, refl, sym, ap, _∙_}
 use mathlib.Core.Logic.{_↔_, inl, inr, ⊎-elim}
 use mathlib.Core.List.{List}
@@ -12,7 +12,7 @@ use Rattle.table.specs.Tree.{Tree, none, node, treeAt}
 use Rattle.table.specs.Refusal.{fault}
 use Rattle.table.proofs.Accepted.{tree-unfolds, tree-none}
 use Rattle.layout.specs.Spine.{SpineNode, spine, Role as LayoutRole, knee, facing, seen, roleAfter, handAfter, Assigned, rolesAfter, roles}
-use Rattle.layout.specs.inner.Held.{spineOn, rolesOn}
+use Rattle.layout.specs.inner.Held.{spineOn, rolesFrom}
 use Rattle.layout.proofs.Sides.{roles-on}
 use Rattle.measure.specs.declared.Fork.{Fork}
 use Rattle.measure.specs.declared.roles.Role.{Role}
@@ -36,9 +36,9 @@ stands t ok k n = (λ e. rw e (tree-none t), λ e. ⊎-elim (λ (z : k ≡ 0). z
 -- The first node of the spine is a knee of its side.
 pub with-first : (t : List ℕ) (s : Side) (k k′ hung : ℕ) (h : Side) → Forked t s k k′ hung h → (r : Role) → (handOf r ≡ s) × (roleOf r ≡ knee) → (n : ℕ) → n ≡ codeOf (handOf r) (roleOf r) → (R : List ℕ) →
     withRoles s (roles (spine (facing s (treeAt t k)))) R ≡ withAfter (handOf r) (roleOf r) (spineOn s (treeAt t k′)) (set R k n)
-unfolding rolesOn
+unfolding rolesFrom
 with-first t s k k′ hung h d r e n i R =
-    ap (λ (rs : List Assigned). withRoles s rs R) (roles-on s (treeAt t k) ∙ ap (rolesOn s) (d .forks))
+    ap (λ (rs : List Assigned). withRoles s rs R) (roles-on s (treeAt t k) ∙ ap (rolesFrom s knee) (d .forks))
     ∙ (with-seen s knee k h (treeAt t hung) (rolesAfter s knee (spineOn s (treeAt t k′))) R ∙ rw (i, e .0, e .1) refl)
 
 -- One more node of the spine.

@@ -33,7 +33,7 @@ use Rattle.measure.specs.inner.Prepared.{Prepared, no-spine, a-spine, Al
 use Rattle.measure.specs.inner.Measured.{SameOutside, Measured, Longer}
 use Rattle.measure.proofs.Forks.{named-within}
 use Rattle.measure.proofs.Choices.{code-same, code-small}
-use Rattle.measure.proofs.Frames.{countOn, countHung, count-spine, hung-below, nodes-named, once, prepared-frame, along-frame, keeps-seen, KeepsAfter, keeps-frame, with-kept, with-keeps, with-whole, AlongAfter, along-node}
+use Rattle.measure.proofs.Frames.{countOn, countHung, along-on, count-spine, hung-below, nodes-named, once, prepared-frame, along-frame, keeps-seen, KeepsAfter, keeps-frame, with-kept, with-keeps, with-whole, AlongAfter, along-node}
 
 -- The three counts of a spine, one node at a time.
 widest-node : (a : Side) (o : Role) (k : ℕ) (h : Side) (S : Tree) (ps : List Part) → widest (hang draw (assigned o (seen a (hangs k h S))) ∷ ps) ≡ max (widthOn a S) (widest ps)
@@ -192,7 +192,7 @@ module _ (t : List ℕ) (ok : fault t ≡ 0) (s : Side) (root : ℕ) where
     measured R₁ i l z w j = record {
       wide = j ∙ wide-whole z;
       prepared = top (tree-unfolds t ok root c);
-      kept-roles = λ x n. v .kept-roles x n ∙ (ap (λ (X : List ℕ). getD X x 0) (i ∙ with-whole s S R₁) ∙ with-kept (opposite s) switch (spineOn s S) R₁ x (sym (count-spine s x S) ∙ n));
+      kept-roles = λ x n. v .kept-roles x n ∙ (ap (λ (X : List ℕ). getD X x 0) (i ∙ with-whole s S R₁) ∙ with-kept (opposite s) switch (spineOn s S) R₁ x (omega (arith, n, count-spine s x S, along-on x (spineOn s S))));
       kept-widest = λ x n. getD-set-other W root x g 0 (λ d. omega (arith, root-counted x d)) ∙ v .kept-widest x n;
     }
       where

@@ -51,7 +51,7 @@ fn knee_on(right: bool) -> Role
     Role::LeftKnee
 }
 
-// 004, Step 3; 01, step 2: the role of the spine node after one of role `before`.
+// 004, Step 3; 01, steps 2 and 7: the role of the spine node after one of role `before`.
 fn role_after(before: Role, fork: Fork) -> Role
     ensures { λ r. ⌜ Follows before fork r ⌝ }
 {

@@ -40,7 +40,7 @@ fn measure_hung(
     measure_left(table, sizes, roles, widest, child)
 }
 
-// 004, Step 3(a) to (c): a subtree for a drawing on the left side.
+// 004, Step 3(a) to (c); 01, step 3: a subtree for a drawing on the left side.
 pub fn measure_left(
     table: &[u8],
     sizes: &[u16],
@@ -58,7 +58,7 @@ pub fn measure_left(
     measure_spine(table, sizes, roles, widest, root, false)
 }
 
-// 004, Step 3(d): a subtree for a drawing on the right side.
+// 004, Step 3(d); 01, step 3: a subtree for a drawing on the right side.
 fn measure_right(
     table: &[u8],
     sizes: &[u16],
@@ -76,7 +76,7 @@ fn measure_right(
     measure_spine(table, sizes, roles, widest, root, true)
 }
 
-// 004, Steps 2 to 4: the roles of the spine first, then what hangs from it, then its W.
+// 004, Steps 2 to 4; 01, steps 1 to 3 and 7: the roles of the spine first, then what hangs from it, then its W.
 fn measure_spine(
     table: &[u8],
     sizes: &[u16],

@@ -33,7 +33,7 @@ pub fn most(a: usize, b: usize) -> usize
     if a < b { b } else { a }
 }
 
-// 004, Step 1; 01, "The spine goes ..": whether a spine goes on to the right child, from the sizes of the two subtrees: of equal ones it takes that on its side.
+// 004, Step 1; 01, "The spine goes": whether a spine goes on to the right child, from the sizes of the two subtrees: of equal ones it takes that on its side.
 fn goes_right(a: u16, b: u16, mirrored: bool) -> bool
     ensures { λ r. ⌜ r ≡ cond mirrored (leb a b) (ltb a b) ⌝ }
 {
@@ -43,7 +43,7 @@ fn goes_right(a: u16, b: u16, mirrored: bool) -> bool
     a < b
 }
 
-// 004, Step 1: the fork of a spine at a node, in a drawing on the left side or on the right.
+// 004, Step 1; 01, "The spine goes": the fork of a spine at a node, in a drawing on the left side or on the right.
 pub fn fork_at(table: &[u8], sizes: &[u16], at: usize, mirrored: bool) -> Fork
     requires { ⌜ fault (now table) ≡ 0 ⌝ }
     requires { ⌜ Chained (now table) at ⌝ }
@@ -66,7 +66,7 @@ pub fn fork_at(table: &[u8], sizes: &[u16], at: usize, mirrored: bool) -> Fork
     }
 }
 
-// 004, Steps 1 to 4, for every spine of the drawing of the tree from `root` on: its roles and its W, which placing is handed. Answers the drawing's width.
+// 004, Steps 1 to 4; 01, steps 1 to 3 and 7: for every spine of the drawing of the tree from `root` on: its roles and its W, which placing is handed. Answers the drawing's width.
 pub fn prepare(
     table: &[u8],
     sizes: &[u16],

@@ -1,4 +1,4 @@
-// Document 01's six roles, and how the role that is kept for a node is read. Which role a node has is chosen elsewhere (choosing.rt).
+// The roles of spine nodes, and how the role that is kept for a node is read. Which role a node has is chosen elsewhere (choosing.rt).
 ghost use mathlib.Core.Path.{_≡_};
 ghost use Prim.Native.Nat.{_<_};
 ghost use lib.ListN.{getD, length};
@@ -8,7 +8,7 @@ ghost use Rattle.layout.specs.inner.Width.{edge};
 ghost use Rattle.measure.specs.Chosen.{sideOf, codeOf};
 ghost use Rattle.measure.specs.inner.Roles.{isKnee, isSwitch, handOf, roleOf};
 
-// specs/inner/Roles gives the hand of each, and what it is on that hand.
+// Document 01's six roles; specs/inner/Roles gives the hand of each, and what it is on that hand.
 pub enum Role {
     LeftKnee,
     OrdinaryLeft,

@@ -31,7 +31,7 @@ fn turned_at(role: Role, turned: bool) -> bool
     }
 }
 
-// 004, Step 4; 01, "W is ..": past a node of the given role, from which a drawing of the given width hangs.
+// 004, Step 4; 01, "W is the greatest width": past a node of the given role, from which a drawing of the given width hangs.
 pub fn past(survey: Survey, role: Role, width: usize, next: usize) -> Survey
     requires { ⌜ width < 65536 ⌝ }
     ensures { λ r. ⌜ Longer survey role width next r ⌝ }

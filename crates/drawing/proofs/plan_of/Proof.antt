@@ -37,14 +37,17 @@ draw-tree-requires c κs =
     let measured = c .before .before .before .before .before .before in
     let first = measured .before .before .before in
     let s = first .before .before .before .before .before in (
-      record {
-        sound = s .pre .0;
-        sized = s .pre .1 .1 .0;
-        long-roles = measured .prepare .kept .1 .1 .0 ∙ s .pre .1 .1 .1 .0;
-        long-widest = measured .prepare .kept .1 .1 .1 .0;
-        enough = s .pre .1 .1 .1 .1 .0;
-      },
-      hanging-root _ (s .pre .0) _ (first .left .ensures .0) _ _ (s .pre .1 .0) (measured .prepare .ensures .1 .prepared),
+      measured .prepare .ensures .0,
+      (
+        record {
+          sound = s .pre .0;
+          sized = s .pre .1 .1 .0;
+          long-roles = measured .prepare .kept .1 .1 .0 ∙ s .pre .1 .1 .1 .0;
+          long-widest = measured .prepare .kept .1 .1 .1 .0;
+          enough = s .pre .1 .1 .1 .1 .0;
+        },
+        hanging-root _ (s .pre .0) _ (first .left .ensures .0) _ _ (s .pre .1 .0) (measured .prepare .ensures .1 .prepared),
+      ),
     )
 
 cast-t20 : tie.Need-cast-t20

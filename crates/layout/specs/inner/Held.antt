@@ -71,13 +71,13 @@ lay a e f switch H r p (hangs k s S ∷ ls) =
     let n : Rest = lay (opposite a) f e (roleNext (opposite a) switch ls) (r + heightOn a S + p) (r + 1) 0 ls in
     record { drawn = join k (at (inwards a e 1) r) s (hungOn a (inwards a e 1) (r + 1) S) (n .drawn); under = r + heightOn a S + 1 }
 
--- The roles of a spine drawn on the side s, whose first node is a knee of that side; W, the greatest width of what hangs from it.
-unfoldable pub rolesOn : Side → List SpineNode → List Assigned
-rolesOn s [] = []
-rolesOn s (l ∷ ls) = assigned knee (seen s l) ∷ rolesAfter s knee ls
+-- The roles from a spine node of the hand a and the role o on. On the side s a spine begins with a knee of that side; W is the greatest width of what hangs from it.
+unfoldable pub rolesFrom : Side → Role → List SpineNode → List Assigned
+rolesFrom a o [] = []
+rolesFrom a o (l ∷ ls) = assigned o (seen a l) ∷ rolesAfter a o ls
 
 unfoldable pub widestOn : Side → Tree → ℕ
-widestOn s S = widest (map (hang draw) (rolesOn s (spineOn s S)))
+widestOn s S = widest (map (hang draw) (rolesFrom s knee (spineOn s S)))
 
 -- f is the other hand's edge, w columns inwards; on the right it need be so only if there are so many columns.
 abbrev pub Frame : Side → (e f w : ℕ) → Type 0
