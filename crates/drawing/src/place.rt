@@ -183,7 +183,7 @@ fn step(
     at_ordinary(table, sizes, roles, widest, points, fork, w)
 }
 
-// 004, Steps 5 and 6: from the first node to the end of a spine; 01, step 8, which 004 omits: what is still pending goes below all. Answers the first row below the drawing.
+// 004, Steps 5 and 6; 01, steps 1 and 4 to 8: from the first node to the end of a spine; what is then still pending goes below all (step 8, which 004 omits). Answers the first row below the drawing.
 fn draw_spine(
     table: &[u8],
     sizes: &[u16],
