@@ -60,15 +60,18 @@ role-after-requires c κs = tt
 number-of-requires-2 : tie.Need-number-of-requires-2 Inv-loop μ-loop
 number-of-requires-2 c κs = tt
 
+-- In the loop the record at hand is within the list, and so is the root.
 mul-roles-2 : tie.Need-mul-roles-2 Inv-loop μ-loop
 mul-roles-2 c =
     let l = c .before .before .before .before in
-    omega (arith, named-within _ (l .before .before .before .before .before .before .before .pre .0) _ (l .loop .inv .0))
+    let p = l .before .before .before .before .before .before .before .pre in
+    omega (arith, named-within _ (p .0) _ (l .loop .inv .0), named-within _ (p .0) _ (inr (p .1 .0)))
 
 slice-write-roles-2 : tie.Need-slice-write-roles-2 Inv-loop μ-loop
 slice-write-roles-2 c =
     let l = c .before .before .before .before in
-    omega (arith, named-within _ (l .before .before .before .before .before .before .before .pre .0) _ (l .loop .inv .0), l .loop .inv .1 .0)
+    let p = l .before .before .before .before .before .before .before .pre in
+    omega (arith, named-within _ (p .0) _ (l .loop .inv .0), named-within _ (p .0) _ (inr (p .1 .0)), l .loop .inv .1 .0)
 
 loop-less : tie.Need-loop-less Inv-loop μ-loop
 loop-less c = omega (arith, c .before .before .fork-at2 .ensures .sizes)
