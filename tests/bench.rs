@@ -127,7 +127,7 @@ fn main() {
                 let t = two(
                     || { black_box(ours::check(black_box(&table), &places)); },
                     || { black_box(theirs.check(black_box(&table), &places)); });
-                println!("{n:>4} {sheet:<14}{shape:<12}{}", row("check", t));
+                println!("{n:>4} {sheet:<16}{shape:<12}{}", row("check", t));
             }
         }
     }

@@ -16,15 +16,16 @@ struct Run {
     calls: u64,
     shared: u64,
     differences: u64,
-    answers: [[u64; 32]; 4],
+    answers: [[u64; 32]; 5],
 }
 
-/// The calls whose answers are counted.
-const CALLS: [&str; 4] = ["draw", "wide", "check", "stroke"];
+/// The calls whose answers are counted; checks of sheets that were made with many level lines by themselves.
+const CALLS: [&str; 5] = ["draw", "wide", "check", "stroke", "check of level lines"];
 const DRAW: usize = 0;
 const WIDE: usize = 1;
 const CHECK: usize = 2;
 const STROKE: usize = 3;
+const LEVEL: usize = 4;
 
 /// Where the lifts and the draws of strokes are counted; all other answers are counted by their number.
 const LIFTS: usize = 30;
@@ -102,10 +103,10 @@ impl Run {
         }
     }
 
-    fn check(&mut self, table: &[u8], places: &[u16]) {
+    fn check(&mut self, call: usize, table: &[u8], places: &[u16]) {
         let a = ours::check(table, places);
         let b = self.reference.check(table, places);
-        self.answers[CHECK][b as usize] += 1;
+        self.answers[call][b as usize] += 1;
         self.to_share(b'c', table, places, a as u64, &[]);
         self.judge(a == b, format!("check: ours {a}, reference {b}"), table, places);
     }
@@ -148,7 +149,7 @@ fn main() {
     let share = fs::File::create(format!("{folder}/share")).unwrap();
     let mut run = Run {
         seed, folder, reference: Reference::new(), share,
-        sharing: false, calls: 0, shared: 0, differences: 0, answers: [[0; 32]; 4],
+        sharing: false, calls: 0, shared: 0, differences: 0, answers: [[0; 32]; 5],
     };
     let mut cases = Cases::new(seed);
     for i in 0..count {
@@ -158,9 +159,9 @@ fn main() {
         run.draw(WIDE, &case.table, &mut places);
         run.turned(&case.table, &places);
         run.draw(DRAW, &case.table, &mut case.places);
-        run.check(&case.table, &case.places);
+        run.check(CHECK, &case.table, &case.places);
         run.strokes(&mut cases, &case.table, &case.places);
-        run.check(&case.table, &case.points);
+        run.check(if case.level { LEVEL } else { CHECK }, &case.table, &case.points);
         let records = case.places.len() / 2;
         if records > 0 {
             for _ in 0..1 + cases.below(2) {
@@ -168,7 +169,7 @@ fn main() {
                 cases.move_node(&mut case.places, record, records);
             }
         }
-        run.check(&case.table, &case.places);
+        run.check(CHECK, &case.table, &case.places);
         run.strokes(&mut cases, &case.table, &case.places);
         run.any(cases.seed());
     }

@@ -52,6 +52,11 @@ class Trials:
     def case(self, kind, count=0, first=0, step=0, more=b''):
         self.cases.append(b''.join(w.to_bytes(2, 'little') for w in (kind, count, first, step)) + more)
 
+    def name(self, text):
+        """What follows, told in the output."""
+        self.case(10, len(text), more=text.encode('ascii'))
+        self.lines.append(text)
+
     def table(self, data):
         self.bytes = data
         self.case(1, len(data), more=data)
@@ -167,7 +172,7 @@ def worked(t):
     assert t.places[12:16] == [x - 1, y + 1, x - 1, y + 2]
     for links, places, verdict in (
             ([(2, 3), (0, 0), (0, 0)], [0, 0, 0, 0, 0, 1, 0, 2], 23), ([(2, 3), (0, 0), (0, 0)], [0, 0, 0, 0, 2, 1, 1, 1], 24),
-            ([(2, 0), (0, 0)], [0, 0, 0, 0, 1, 0], 22)):
+            ([(2, 0), (0, 0)], [0, 0, 0, 0, 1, 0], 0), ([(0, 2), (0, 0)], [0, 0, 0, 0, 1, 0], 0)):      # good since document 02, Paper 4
         t.table(packed(plain(links)))
         t.numbers(places)
         t.check()
@@ -316,6 +321,73 @@ def verdicts(t, rng):
         t.check()
 
 
+def level_lines(t):
+    """Sheets with level lines, by name: the links, the points of 1, 2, .., and what documents 01 and 02 say of them."""
+    top = 65535
+    left, right, two, path = [(2, 0), (0, 0)], [(0, 2), (0, 0)], [(2, 3), (0, 0), (0, 0)], [(2, 0), (3, 0), (0, 0)]
+    four, five = [(2, 3), (4, 0), (0, 0), (0, 0)], [(2, 3), (4, 0), (5, 0), (0, 0), (0, 0)]
+    for name, links, points, verdict in [
+        ('a left child level, to the left', left, [(1, 0), (0, 0)], 0),
+        ('a left child level, to the right', left, [(0, 0), (1, 0)], 0),
+        ('a right child level, to the left', right, [(9, 5), (2, 5)], 0),
+        ('a level line across the whole bottom row', right, [(0, top), (top, top)], 0),
+        ('a child one row above', left, [(0, 1), (5, 0)], 22),
+        ('a child at the other end of the rows above', right, [(0, top), (top, 0)], 22),
+        ('level children', two, [(1, 0), (0, 0), (2, 0)], 0),
+        ('level children at the ends of a row', two, [(32768, top), (0, top), (top, top)], 0),
+        ('level children in the other order', two, [(1, 0), (2, 0), (0, 0)], 24),
+        ('level children at the ends of a row in the other order', two, [(32768, top), (top, top), (0, top)], 24),
+        ('level children on the left, the left one nearer', two, [(2, 0), (1, 0), (0, 0)], 23),
+        ('level children on the left, the right one nearer', two, [(2, 0), (0, 0), (1, 0)], 23),
+        ('level children on the right, the left one nearer', two, [(0, 0), (1, 0), (2, 0)], 23),
+        ('level children on the right, the right one nearer', two, [(0, 0), (2, 0), (1, 0)], 23),
+        ('the left child level to the left, the right one lower to the right', two, [(1, 0), (0, 0), (2, 1)], 0),
+        ('the left child level to the left, the right one straight below', two, [(1, 0), (0, 0), (1, 1)], 0),
+        ('the left child level to the left, the right one lower and farther left', two, [(2, 0), (1, 0), (0, 1)], 0),
+        ('the left child level to the right, the right one lower to the left', two, [(1, 0), (2, 0), (0, 1)], 24),
+        ('the left child level to the right, the right one straight below', two, [(1, 0), (2, 0), (1, 1)], 24),
+        ('the left child level to the right, the right one lower and farther right', two, [(0, 0), (1, 0), (2, 1)], 24),
+        ('the right child level to the right, the left one lower to the left', two, [(1, 0), (0, 1), (2, 0)], 0),
+        ('the right child level to the right, the left one straight below', two, [(1, 0), (1, 1), (2, 0)], 0),
+        ('the right child level to the right, the left one lower and farther right', two, [(0, 0), (2, 1), (1, 0)], 0),
+        ('the right child level to the left, the left one lower to the right', two, [(1, 0), (2, 1), (0, 0)], 24),
+        ('the right child level to the left, the left one straight below', two, [(1, 0), (1, 1), (0, 0)], 24),
+        ('one child level and one above', two, [(1, 1), (0, 1), (2, 0)], 22),
+        ('two level lines that go on in one row', path, [(0, 0), (1, 0), (2, 0)], 0),
+        ('two level lines that go on to the left', path, [(2, 3), (1, 3), (0, 3)], 0),
+        ('a level line that goes back over the one to its parent', path, [(0, 0), (2, 0), (1, 0)], 23),
+        ('a level line that goes back to its grandparent', path, [(0, 0), (2, 0), (0, 0)], 21),
+        ('a level line that goes back beyond its grandparent', path, [(1, 0), (2, 0), (0, 0)], 23),
+        ('two level lines apart in one row', five, [(4, 0), (0, 1), (5, 1), (3, 1), (7, 1)], 0),
+        ('two level lines that overlap in one row', five, [(4, 0), (0, 1), (2, 1), (3, 1), (7, 1)], 23),
+        ('two level lines that overlap in one row, one to the left', five, [(4, 0), (3, 1), (7, 1), (0, 1), (2, 1)], 23),
+        ('two level lines in one row, one within the other', five, [(4, 0), (0, 1), (2, 1), (7, 1), (3, 1)], 23),
+        ('two level lines that overlap at the end of the bottom row', five, [(4, 0), (0, top), (2, top), (top, top), (top - 1, top)], 23),
+        ('two level lines with one end at one point', five, [(4, 0), (0, 1), (7, 1), (3, 1), (3, 1)], 21),
+        ('two level lines one above the other', five, [(4, 0), (0, 1), (9, 2), (3, 1), (1, 2)], 0),
+        ('a level line through a node', four, [(3, 0), (0, 2), (2, 2), (5, 2)], 23),
+        ('a level line through a node, to the left', four, [(3, 0), (5, 2), (4, 2), (0, 2)], 23),
+        ('a level line that ends a column before a node', four, [(3, 0), (0, 2), (2, 2), (1, 2)], 0),
+        ('a level line a row below a node', four, [(3, 0), (0, 3), (2, 2), (5, 3)], 0),
+        ('a level line through the root', four, [(3, 0), (0, 0), (4, 1), (5, 0)], 23),
+        ('a level line that touches a steep one with its end', four, [(4, 0), (0, 4), (4, 8), (4, 4)], 23),
+        ('a level line that ends a column before a steep one', four, [(4, 0), (0, 4), (4, 8), (3, 4)], 0),
+        ('a level line that crosses a steep one', four, [(4, 0), (0, 4), (4, 8), (5, 4)], 23),
+        ('a level line that touches a slanting one with its end', four, [(2, 0), (0, 4), (6, 8), (4, 4)], 23),
+        ('a level line that crosses a slanting one between columns', four, [(2, 0), (0, 4), (5, 8), (4, 4)], 23),
+        ('a level line that ends between a slanting one and its column', four, [(2, 0), (0, 4), (5, 8), (3, 4)], 0),
+        ('a steep line that touches a level one with its end', five, [(4, 0), (0, 4), (6, 1), (9, 4), (6, 4)], 23),
+        ('a steep line that ends a row above a level one', five, [(4, 0), (0, 4), (6, 1), (9, 4), (6, 3)], 0),
+        ('a steep line from a node on a level one', five, [(4, 0), (0, 4), (6, 4), (9, 4), (6, 9)], 23),
+        ('level children in the other order, and lines that overlap', five, [(4, 0), (5, 0), (0, 0), (5, 1), (9, 0)], 23),
+    ]:
+        t.name(name)
+        t.table(packed(plain(links)))
+        t.numbers([0, 0] + [x for point in points for x in point])
+        t.check()
+        assert t.lines[-1] == 'check %d' % verdict, (name, t.lines[-1])
+
+
 def stored(points, record, records):
     """The points of a tree's nodes as placements of its records."""
     places = [0] * (2 * records)
@@ -331,10 +403,10 @@ def loose(tree, rng):
             for d in tree.depth]
 
 
-def stretched(tree, rng):
-    """A good level drawing, stretched up to 65,535."""
+def stretched(tree, points, rng):
+    """Points stretched up to 65,535."""
     sx, sy = rng.choice(((1, 1), (2, 3), (6, 2), (65535 // tree.n, 65535 // max(1, max(tree.depth)))))
-    return [(x * sx, y * sy) for x, y in trees.levels(tree)]
+    return [(x * sx, y * sy) for x, y in points]
 
 
 def moved(tree, points, rng):
@@ -351,17 +423,24 @@ def moved(tree, points, rng):
     return points
 
 
-def check_case(rng, low=2, high=16):
-    """A table and placements for a check."""
-    tree = rng.choice(trees.shapes(rng)[5:])[1](rng.randint(low, high))
+def check_case(rng, level=False):
+    """A table and placements for a check: of any sheet, or of one with many level lines, of which most are good."""
+    tree = rng.choice(trees.shapes(rng)[3 if level else 5:])[1](rng.randint(2, 12 if level else 16))
     data, record = trees.table(tree, rng, extra=rng.randint(0, 2))
     way = rng.randrange(6)
-    points = loose(tree, rng) if way == 0 else stretched(tree, rng)
+    if level:
+        points = stretched(tree, trees.trays(tree, rng, 0.2 if way == 0 else 0.0), rng)
+    else:
+        points = loose(tree, rng) if way == 0 else stretched(tree, trees.layers(tree), rng)
     if way == 1:                            # seen in a mirror: clean lines, children out of order
         points = [(65535 - x, y) for x, y in points]
     for _ in range(max(0, way - 2)):
         points = moved(tree, points, rng)
     return data, stored(points, record, len(data) // 8)
+
+
+def level_case(rng):
+    return check_case(rng, level=True)
 
 
 def draw_case(rng, low=14, high=40):
@@ -393,21 +472,21 @@ def random_strokes(t, rng):
             t.stroke(pitch, number)
 
 
-def random_checks(t, rng):
-    for _ in range(400):
-        data, places = check_case(rng)
+def random_checks(t, rng, count, make):
+    for _ in range(count):
+        data, places = make(rng)
         t.table(data)
         t.numbers(places)
         t.check()
 
 
-def level_checks(t, rng):
+def large_checks(t, rng, points_of):
     """Wide, low drawings, whose lines are sorted by columns: good ones, and some with a few nodes moved."""
     for name, make in trees.shapes(rng)[5:]:
         for n in (rng.randint(60, 200), rng.randint(513, 700)):
             tree = make(n)
             data, record = trees.table(tree, rng, extra=rng.randint(0, 2))
-            points = stretched(tree, rng)
+            points = stretched(tree, points_of(tree), rng)
             for _ in range(3):
                 t.table(data)
                 t.numbers(stored(points, record, len(data) // 8))
@@ -420,19 +499,20 @@ def telling(t):
     for kind, name, *changes in slips.SLIPS:
         if kind == 'table':
             continue
+        t.name('%s: %s' % (kind, name))
         rng = seeded(kind + ': ' + name)
         ask, = slips.CALLS[kind]
         wrong, told = slips.reference(changes), 0
         for _ in range(20000):
-            data, places, *more = {'check': check_case, 'stroke': stroke_case}.get(kind, draw_case)(rng)
+            data, places, *more = {'check': check_case, 'level': level_case, 'stroke': stroke_case}.get(kind, draw_case)(rng)
             if slips.answer(wrong, ask, data, places, *more) != slips.answer(racksheet, ask, data, places, *more):
                 told += 1
                 t.table(data)
-                if kind in ('check', 'stroke'):
+                if kind in ('check', 'level', 'stroke'):
                     t.numbers(places)
                 else:
                     t.filled(len(places), *SEQUENCE)
-                {'draw': t.draw, 'check': t.check, 'wide': t.wide, 'stroke': t.stroke}[kind](*more)
+                {'draw': t.draw, 'check': t.check, 'level': t.check, 'wide': t.wide, 'stroke': t.stroke}[kind](*more)
                 if kind == 'draw':
                     t.check()
             if told == 12:
@@ -484,17 +564,25 @@ def random_trees(t, rng):
 
 def main():
     t = Trials()
-    worked(t)
-    refusals(t)
-    strokes(t)
-    damaged(t, seeded('damaged'))
-    verdicts(t, seeded('verdicts'))
-    random_checks(t, seeded('checks'))
-    random_strokes(t, seeded('strokes'))
-    telling(t)
-    random_trees(t, seeded('trees'))
-    level_checks(t, seeded('level'))
-    turned(t, seeded('turned'))
+    trays = seeded('trays')
+    for name, part in [
+        ('sheets worked by hand', lambda: worked(t)),
+        ('refusals', lambda: refusals(t)),
+        ('strokes', lambda: strokes(t)),
+        ('damaged tables', lambda: damaged(t, seeded('damaged'))),
+        ('verdicts', lambda: verdicts(t, seeded('verdicts'))),
+        ('level lines', lambda: level_lines(t)),
+        ('random checks', lambda: random_checks(t, seeded('checks'), 400, check_case)),
+        ('random checks of level lines', lambda: random_checks(t, seeded('level lines'), 300, level_case)),
+        ('random strokes', lambda: random_strokes(t, seeded('strokes'))),
+        ('cases that tell slips', lambda: telling(t)),
+        ('random trees', lambda: random_trees(t, seeded('trees'))),
+        ('large layered sheets', lambda: large_checks(t, seeded('level'), trees.layers)),
+        ('large sheets of level lines', lambda: large_checks(t, trays, lambda tree: trees.trays(tree, trays))),
+        ('turned wide drawings', lambda: turned(t, seeded('turned'))),
+    ]:
+        t.name(name)
+        part()
     crate = os.path.join(os.path.dirname(here), 'crates', 'trials')
     with open(os.path.join(crate, 'stdin'), 'wb') as f:
         f.write(b''.join(t.cases))

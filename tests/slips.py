@@ -3,7 +3,7 @@
 
 A slip is a change of a line or two of the reference program, made in memory; the file itself stays as it is.
 Only cases of the call that the slip is of are counted; a slip of the table has to be told by every call.
-make_trials.py seeks cases that tell each slip of a drawing, a check or a stroke, and stores what the unchanged program says of them.
+make_trials.py seeks cases that tell each slip of a drawing, a check (of level lines with sheets of such lines) or a stroke, and stores what the unchanged program says of them.
 """
 import os
 import sys
@@ -14,7 +14,7 @@ crate = os.path.join(os.path.dirname(here), 'crates', 'trials')
 UPTO = int(open(os.path.join(here, 'upto')).read())     # requests 1 to UPTO of document 02 are in force
 
 # The calls of the reference program whose answers a kind of slip changes.
-CALLS = {'draw': ['draw'], 'check': ['check'], 'wide': ['draw_wide'], 'stroke': ['stroke'],
+CALLS = {'draw': ['draw'], 'check': ['check'], 'level': ['check'], 'wide': ['draw_wide'], 'stroke': ['stroke'],
          'table': ['draw', 'check', 'draw_wide', 'stroke']}
 
 TIE = 'size[L[v]] >= size[R[v]]'
@@ -30,7 +30,12 @@ TIMES = 'return u[0] * v[1] - u[1] * v[0]'
 COMPARE = 'kind = compare('
 ON = 'if lo <= column <= hi and b not in line and'
 REACH = 'if len(preorder(roots, left, right)) != len(chain):'
+ABOVE = 'if at[c][1] < at[b][1]:'
+EQUAL = 'if upto < 4 and at[c][1] == at[b][1]'
+LEVEL = 'level = upto >= 4 and b == 0 and d == 0 and a < 0 and c > 0'
 ORDER = 'if not (a * d - b * c < 0 or level)'
+TOUCH = 'if kind == TOUCHING:'
+OFF_LEVEL = ON + ' at[line[0]][1] != at[line[1]][1] and'            # no node is held against a level line
 LINES = '[(b, c) for b in t.chain for c in (t.left[b], t.right[b]) if c != 0]'
 LIFTED, DRAWN_TO = 'strokes.append((LIFT, parent))', 'strokes.append((DRAW, child))'
 FIRST = 'in millimetres as exact fractions)"""\n'
@@ -76,13 +81,29 @@ SLIPS = [
     ('wide', 'ties go to the right', TIE, 'size[L[v]] > size[R[v]]'),
     ('wide', "ties go to the file's left", TIE, TIE_BY + 'L is FILE[0]', WIDE, 'FILE[:] = [t.left]; ' + WIDE),
     ('wide', "ties go to the file's right", TIE, TIE_BY + 'L is FILE[0]', WIDE, 'FILE[:] = [t.right]; ' + WIDE),
-    ('check', '22 with "less" for "not greater"', 'if upto < 4 and at[c][1] == at[b][1]', 'if False'),
+    ('check', 'a child above its parent passes', ABOVE, 'if False:'),
     ('check', 'lines that share an end are not compared', COMPARE, 'kind = {b, c} & {e, f} or compare(', ON, 'if False and'),
     ('check', 'crossings are tested in the middles of lines only', 'if kind == TOUCHING', 'if kind == TOUCHING and {b, c} & {e, f}',
      ON, 'if False and'),
     ('check', 'cross products cut to 32 bits', CROSS, 'to32(' + CROSS + ')', TIMES, 'return to32(u[0] * v[1] - u[1] * v[0])'),
-    ('check', 'the products of 24 cut to 32 bits', ORDER, 'if not to32(a * d - b * c) < 0'),
-    ('check', '24 with the sides exchanged', ORDER, 'if not a * d - b * c > 0'),
+    ('check', 'the products of 24 cut to 32 bits', ORDER, ORDER.replace('a * d - b * c', 'to32(a * d - b * c)')),
+    ('check', '24 with the sides exchanged', ORDER, ORDER.replace('<', '>')),
+    ('level', '22 with "not greater"', EQUAL, 'if at[c][1] == at[b][1]'),
+    ('level', 'level children are never in order', LEVEL, 'level = False'),
+    ('level', 'level children are in order either way', LEVEL, LEVEL.replace('a < 0 and c > 0', 'a * c < 0')),
+    ('level', 'one level child is enough', LEVEL, 'level = b == 0 or d == 0'),
+    ('level', 'a level child and a lower one are out of order', ORDER, ORDER.replace('< 0', '< 0 and b > 0 and d > 0')),
+    ('level', 'a level child and a lower one are in order by their columns', ORDER, 'if not (a < 0 < c if b == 0 or d == 0 else a * d - b * c < 0)'),
+    ('level', 'level lines of one row are not compared', COMPARE, 'kind = at[b][1] == at[c][1] == at[e][1] == at[f][1] or compare(', ON, OFF_LEVEL),
+    ('level', 'level lines of one row with a common end are not compared',
+     COMPARE, 'kind = at[b][1] == at[c][1] == at[e][1] == at[f][1] and bool({b, c} & {e, f}) or compare(', ON, OFF_LEVEL),
+    ('level', 'level lines of one row without a common end are not compared',
+     COMPARE, 'kind = at[b][1] == at[c][1] == at[e][1] == at[f][1] and not {b, c} & {e, f} or compare(', ON, OFF_LEVEL),
+    ('level', 'level lines to the left are not compared', COMPARE,
+     'kind = at[b][1] == at[c][1] and at[c] < at[b] or at[e][1] == at[f][1] and at[f] < at[e] or compare(', ON, OFF_LEVEL),
+    ('level', 'a level line may touch another line', TOUCH, TOUCH.replace(':', ' and at[b][1] != at[c][1] and at[e][1] != at[f][1]:'), ON, OFF_LEVEL),
+    ('level', 'a level line may touch one that is not level', TOUCH, TOUCH.replace(':', ' and (at[b][1] == at[c][1]) == (at[e][1] == at[f][1]):'), ON, OFF_LEVEL),
+    ('level', 'a level line may cross another', 'if kind == CROSSING:', 'if kind == CROSSING and at[b][1] != at[c][1] and at[e][1] != at[f][1]:'),
     ('stroke', 'right before left', LINES, LINES.replace('(t.left[b], t.right[b])', '(t.right[b], t.left[b])')),
     ('stroke', 'lines in the order of the records', LINES, LINES.replace('in t.chain', 'in sorted(t.chain)')),
     ('stroke', 'lines in the order of the tree', LINES, LINES.replace('in t.chain', 'in preorder(t.roots, t.left, t.right)')),
@@ -163,7 +184,7 @@ def cases():
     at, table, places = 0, b'', []
     while at < len(data):
         kind, count, first, step = words(data[at:at + 8])
-        more = data[at + 8:at + 8 + {1: count, 2: 2 * count, 4: 4 * count, 9: 8}.get(kind, 0)]
+        more = data[at + 8:at + 8 + {1: count, 2: 2 * count, 4: 4 * count, 9: 8, 10: count}.get(kind, 0)]
         at += 8 + len(more)
         if kind == 1:
             table = more

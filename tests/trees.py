@@ -159,7 +159,7 @@ def packed(words):
     return b''.join(w.to_bytes(2, 'little') for record in words for w in record)
 
 
-def levels(tree):
+def layers(tree):
     """A good drawing that fits any tree: the column is the place in order from left to right, the row the depth."""
     points = [(0, 0)] * (tree.n + 1)
     column, todo, v = 0, [], 1 if tree.n else 0
@@ -172,3 +172,18 @@ def levels(tree):
         column += 1
         v = tree.right[v]
     return points
+
+
+def trays(tree, rng, wrong=0.0):
+    """A drawing with many level lines: the columns of layers, and each child level with its parent or lower, as it falls out.
+    It is good but where a level line goes back over the one to its parent, for which a child is set so rarely, or not at all."""
+    points, likely = layers(tree), rng.choice((0.3, 0.6, 0.9, 1.0))
+    row, came = [0] * (tree.n + 1), [None] * (tree.n + 1)                   # came: the side of a level line to the node
+    for v in range(1, tree.n + 1):
+        for side, c in enumerate((tree.left[v], tree.right[v])):
+            back = came[v] is not None and came[v] != side
+            if c and rng.random() < (wrong if back else likely):
+                row[c], came[c] = row[v], side
+            elif c:
+                row[c] = row[v] + 1
+    return [(column, r) for (column, _), r in zip(points, row)]

@@ -22,7 +22,7 @@ use Rattle.drawing.specs.declared.Drawn.{Drawn}
 use Rattle.drawing.proofs.StoredPoints.{times, store-length, store-point}
 use Rattle.drawing.proofs.Answered.{Accepted, accepted, drawn-refusal}
 use Rattle.verdict.specs.Points.{pointOf}
-use Rattle.verdict.specs.Conditions.{SamePoint, NotLower, Touching, OutOfOrder}
+use Rattle.verdict.specs.Conditions.{SamePoint, ChildAbove, Touching, OutOfOrder}
 use Rattle.verdict.specs.Verdict.{FirstOf, conditions, Verdict}
 use Rattle.width.specs.Allowed.{floorLog2, allowedWidth}
 use Rattle.width.proofs.FloorLog2.{floor-bounds, allowed-some}
@@ -35,8 +35,8 @@ module _ (t p : List ℕ) (ok : fault t ≡ 0) (z : Checked (tree t) (pointOf p)
   not-same : SamePoint t p → ⊥
   not-same h = z .distinct (h .k) (h .m) (chained-node t ok (h .k) (h .chained-k)) (chained-node t ok (h .m) (h .chained-m)) (h .two) (h .same)
 
-  all-lower : NotLower t p → ⊥
-  all-lower h = let l = z .lower (h .k) (h .c) (h .s) (line-child t ok (h .line)) in omega (arith, l, h .not-greater)
+  none-above : ChildAbove t p → ⊥
+  none-above h = let l = z .lower (h .k) (h .c) (h .s) (line-child t ok (h .line)) in omega (arith, l, h .above)
 
   no-touch : Touching t p → ⊥
   no-touch (inl h) =
@@ -45,10 +45,10 @@ module _ (t p : List ℕ) (ok : fault t ≡ 0) (z : Checked (tree t) (pointOf p)
   no-touch (inr h) = h .no-end (z .clear (h .b) (h .k) (h .c) (h .s) (chained-node t ok (h .b) (h .chained)) (line-child t ok (h .line)) (h .lies .q) (h .lies .q≥1) (h .lies .on))
 
   in-order : OutOfOrder t p → ⊥
-  in-order h = h .not-below (cross-negative _ _ _ .1 (z .ordered (h .k) (h .a) (h .b) (line-child t ok (h .left-line)) (line-child t ok (h .right-line))))
+  in-order h = h .not-ordered (inl (cross-negative _ _ _ .1 (z .ordered (h .k) (h .a) (h .b) (line-child t ok (h .left-line)) (line-child t ok (h .right-line)))))
 
   good : FirstOf (conditions t p) 0
-  good = inr (not-same, inr (all-lower, inr (no-touch, inr (in-order, refl))))
+  good = inr (not-same, inr (none-above, inr (no-touch, inr (in-order, refl))))
 
 -- ---- the drawing's points are read back
 

@@ -2,8 +2,8 @@
 use mathlib.Core.Path.{_≡_}
 use mathlib.Core.Bool.{Bool, true, false, not, cond, _&&_, _||_}
 use mathlib.Core.Logic.{_↔_, _⊎_, ⊎-elim, ⊎-map, Iff·trans}
-use Prim.Native.Nat.{ℕ, _≤_}
-use lib.Dec.{T, T-not, not-T, leb, eqb, leb→le, le→leb, eqb→eq}
+use Prim.Native.Nat.{ℕ, _≤_, _<_}
+use lib.Dec.{T, T-not, not-T, leb, ltb, eqb, leb→le, le→leb, ltb→lt, lt→ltb, eqb→eq}
 use mir.Facts.{T-not-not, and-yes, yes-and, or-yes, or-no, yes-eqb}
 
 -- A record, so that b and A are inferred
@@ -12,6 +12,9 @@ pub record Decides (b : Bool) (A : Type 0) : Type 0 where
 
 pub le-decides : (m n : ℕ) → Decides (leb m n) (m ≤ n)
 le-decides m n = record { is = (leb→le m n, le→leb m n) }
+
+pub lt-decides : (m n : ℕ) → Decides (ltb m n) (m < n)
+lt-decides m n = record { is = (ltb→lt m n, lt→ltb m n) }
 
 pub eq-decides : (m n : ℕ) → Decides (eqb m n) (m ≡ n)
 eq-decides m n = record { is = (eqb→eq m n, λ e. yes-eqb e) }

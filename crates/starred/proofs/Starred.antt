@@ -19,7 +19,7 @@ use Rattle.segment.specs.inner.Test.{overlap, spans, astride}
 use Rattle.segment.proofs.SharedPoint.{meets}
 use Rattle.segment.proofs.Clashing.{same as samePlace, along, clashes}
 use Rattle.verdict.specs.Verdict.{Verdict}
-use Rattle.verdict.proofs.Decide.{present, someLine, samePoint, notLower, linesClash, outOfOrder, verdictOf, decided}
+use Rattle.verdict.proofs.Decide.{present, someLine, samePoint, childAbove, linesClash, inOrder, outOfOrder, verdictOf, decided}
 use Rattle.width.specs.Allowed.{greatest, floorLog2, allowedWidth}
 use Rattle.starred.specs.Cases.{Case, draws, checks, allows, accepted, Right, cases}
 
@@ -76,5 +76,5 @@ every [] ok = tt
 every (c ∷ cs) ok = let z = and-yes (test c) (tests cs) ok in (right c (z .0), every cs (z .1))
 
 pub starred : All Right cases
-unfolding any member repeats count word follow chain size nodes descend badLength badHead beyond badChain stray badLinks isEmpty links badTree shortPlacements fault refusal width height shift flip mirror spine opposite seen runRole roleAfter handAfter rolesAfter roles hang widest join place steps drawing draw store planOf drawnOf placedIn cross overlap spans astride meets samePlace along clashes present someLine samePoint notLower linesClash outOfOrder verdictOf greatest floorLog2 allowedWidth same listed test tests
+unfolding any member repeats count word follow chain size nodes descend badLength badHead beyond badChain stray badLinks isEmpty links badTree shortPlacements fault refusal width height shift flip mirror spine opposite seen runRole roleAfter handAfter rolesAfter roles hang widest join place steps drawing draw store planOf drawnOf placedIn cross overlap spans astride meets samePlace along clashes present someLine samePoint childAbove linesClash inOrder outOfOrder verdictOf greatest floorLog2 allowedWidth same listed test tests
 starred = every cases tt

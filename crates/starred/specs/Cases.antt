@@ -99,6 +99,6 @@ cases =
     checks two-leaves (8 ∷ 9 ∷ 0 ∷ 0 ∷ 0 ∷ 1 ∷ 0 ∷ 2 ∷ []) 23 ∷
     -- "Same root, left (2,1), right (1,1): 24."
     checks two-leaves (8 ∷ 9 ∷ 0 ∷ 0 ∷ 2 ∷ 1 ∷ 1 ∷ 1 ∷ []) 24 ∷
-    -- "Root (0,0), only child (1,0): 22."
-    checks one-left (8 ∷ 9 ∷ 0 ∷ 0 ∷ 1 ∷ 0 ∷ []) 22 ∷
-    checks one-right (8 ∷ 9 ∷ 0 ∷ 0 ∷ 1 ∷ 0 ∷ []) 22 ∷ []
+    -- "Root (0,0), only child (1,0)": 22 in document 01; "The starred level sheet becomes good" (document 02, Paper 4)
+    checks one-left (8 ∷ 9 ∷ 0 ∷ 0 ∷ 1 ∷ 0 ∷ []) 0 ∷
+    checks one-right (8 ∷ 9 ∷ 0 ∷ 0 ∷ 1 ∷ 0 ∷ []) 0 ∷ []

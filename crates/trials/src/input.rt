@@ -1,4 +1,4 @@
-// What a case brings: its head, the bytes of a table, the numbers of placements, the number of a stroke.
+// What a case brings: its head, the bytes of a table or a name, the numbers of placements, the number of a stroke.
 ghost use Prim.Native.Nat.{_+_, _*_, _<_, _≤_};
 ghost use lib.ListN.{length};
 
@@ -63,11 +63,12 @@ pub fn next_number() -> u64 {
     number_of(&bytes)
 }
 
-pub fn table_bytes(table: &mut [u8], count: usize) -> usize
-    requires { ⌜ count ≤ length (now table) ⌝ }
-    ensures { λ r. ⌜ r ≤ length (now (table .entry)) ⌝ }
+// The next bytes: how many they are.
+pub fn next_bytes(bytes: &mut [u8], count: usize) -> usize
+    requires { ⌜ count ≤ length (now bytes) ⌝ }
+    ensures { λ r. ⌜ r ≤ length (now (bytes .entry)) ⌝ }
 {
-    io::read_full(0, &mut table[..count]);
+    io::read_full(0, &mut bytes[..count]);
     count
 }
 

@@ -13,6 +13,7 @@
 //   8 wide: prints 'wide', nodes, width and height, or 'wide refused' and the refusal, and the placements as in 5
 //   9 stroke: four words follow, the stroke's number, low word first; the pitch is count mod 256. Prints 'stroke lift' or
 //     'stroke draw' and the bit patterns of the point's two floats, 'stroke done', or 'stroke refused' and the refusal
+//   10 name: count mod 256 bytes follow, the name of what comes next; prints them as a line
 // The cases end with the input, or with a head of any other kind.
 mod input;
 mod text;
@@ -21,9 +22,9 @@ use crate::input::Head;
 use crate::input::changed;
 use crate::input::filled;
 use crate::input::listed;
+use crate::input::next_bytes;
 use crate::input::next_head;
 use crate::input::next_number;
-use crate::input::table_bytes;
 use crate::text::number;
 use crate::text::put;
 use crate::text::put_all;
@@ -123,6 +124,17 @@ fn run_stroke(table: &[u8], places: &[u16], pitch: u8, out: &mut [u8], used: usi
     put_stroke(out, used, answer)
 }
 
+// A name, as it stands.
+fn run_name(count: usize, out: &mut [u8], used: usize) -> usize
+    requires { ⌜ 0 < length (now out) ⌝ }
+    requires { ⌜ count ≤ 255 ⌝ }
+{
+    let mut name = [0u8; 256];
+    let n = next_bytes(&mut name, count);
+    let at = put_all(out, used, &name[..n]);
+    put(out, at, b'\n')
+}
+
 // A case that prints.
 fn ask(table: &[u8], places: &mut [u16], out: &mut [u8], used: usize, h: Head) -> usize
     requires { ⌜ 0 < length (now out) ⌝ }
@@ -141,6 +153,9 @@ fn ask(table: &[u8], places: &mut [u16], out: &mut [u8], used: usize, h: Head) -
     }
     if h.kind == 9 {
         return run_stroke(table, places, (h.count % 256) as u8, out, used);
+    }
+    if h.kind == 10 {
+        return run_name(h.count % 256, out, used);
     }
     run_width(h, out, used)
 }
@@ -174,7 +189,7 @@ fn step(table: &mut [u8], places: &mut [u16], out: &mut [u8], s: State) -> State
     ensures { λ r. ⌜ r .places ≤ length (now (places .entry)) ⌝ }
 {
     let h = next_head();
-    if h.kind == 0 || 9 < h.kind {
+    if h.kind == 0 || 10 < h.kind {
         return State {
             bytes: s.bytes,
             places: s.places,
@@ -184,7 +199,7 @@ fn step(table: &mut [u8], places: &mut [u16], out: &mut [u8], s: State) -> State
     }
     if h.kind == 1 {
         return State {
-            bytes: table_bytes(table, h.count),
+            bytes: next_bytes(table, h.count),
             places: s.places,
             used: s.used,
             more: true,

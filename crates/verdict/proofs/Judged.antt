@@ -14,7 +14,7 @@ use Rattle.sweep.specs.declared.meeting.Meeting.the-variants.{Clear, Clashing}
 use Rattle.sweep.specs.inner.Line.{startOf, endOf, last}
 use Rattle.sweep.specs.inner.Meetings.{Met, grade, Worst}
 use Rattle.table.specs.inner.Reading.{Nodes}
-use Rattle.verdict.specs.Conditions.{SamePoint, NotLower, OutOfOrder}
+use Rattle.verdict.specs.Conditions.{SamePoint, ChildAbove, OutOfOrder}
 use Rattle.verdict.specs.Verdict.{numbered, FirstOf, conditions}
 use Rattle.verdict.specs.inner.Steps.{LinesOf, Rises, lineConditions}
 use Rattle.verdict.proofs.Places.{same-ends, rising, clashing}
@@ -67,13 +67,13 @@ module _ {t p nodes ls : List ℕ} {n : ℕ} (l : Nodes t n nodes) (x : LinesOf 
   apart : (Same n ls → ⊥) → SamePoint t p → ⊥
   apart s y = s (same-ends p l x .1 y)
 
-  lower : (Same n ls → ⊥) → (Rising n ls → ⊥) → NotLower t p → ⊥
-  lower s r y = r (rising p l x (apart s) .1 y)
+  none-above : (Rising n ls → ⊥) → ChildAbove t p → ⊥
+  none-above r y = r (rising p l x .1 y)
 
   pub some-fault : {v : ℕ} → v ≢ 0 → FirstOf (lineConditions n ls) v → FirstOf (conditions t p) v
   some-fault z (inl (s, e)) = inl (same-ends p l x .0 s, e)
-  some-fault z (inr (s, inl (r, e))) = inr (apart s, inl (rising p l x (apart s) .0 r, e))
-  some-fault z (inr (s, inr (r, inl (c, e)))) = inr (apart s, inr (lower s r, inl (clashing p l x (apart s) .0 c, e)))
+  some-fault z (inr (s, inl (r, e))) = inr (apart s, inl (rising p l x .0 r, e))
+  some-fault z (inr (s, inr (r, inl (c, e)))) = inr (apart s, inr (none-above r, inl (clashing p l x (apart s) .0 c, e)))
   some-fault z (inr (s, inr (r, inr (c, e)))) = absurd (z e)
 
   -- Without a fault, 24 is what is left.
@@ -81,4 +81,4 @@ module _ {t p nodes ls : List ℕ} {n : ℕ} (l : Nodes t n nodes) (x : LinesOf 
   no-fault z (inl (s, e)) o = absurd (omega arith)
   no-fault z (inr (s, inl (r, e))) o = absurd (omega arith)
   no-fault z (inr (s, inr (r, inl (c, e)))) o = absurd (omega arith)
-  no-fault z (inr (s, inr (r, inr (c, e)))) o = inr (apart s, inr (lower s r, inr (λ y. c (clashing p l x (apart s) .1 y), o)))
+  no-fault z (inr (s, inr (r, inr (c, e)))) o = inr (apart s, inr (none-above r, inr (λ y. c (clashing p l x (apart s) .1 y), o)))

@@ -7,7 +7,7 @@ use lib.ListN.{length}
 use Rattle.table.specs.Table.{Side, Chained, Line}
 use Rattle.table.specs.OffChain.{OffChain}
 use Rattle.table.proofs.OffChain.{chain-same, link-same, refusal-same, off-chain-sym}
-use Rattle.verdict.specs.Conditions.{SamePoint, NotLower, LinesTouch, NodeOnLine, Touching, OutOfOrder}
+use Rattle.verdict.specs.Conditions.{SamePoint, ChildAbove, LinesTouch, NodeOnLine, Touching, OutOfOrder}
 use Rattle.verdict.specs.Verdict.{Verdict}
 
 -- The conditions, of the other table.
@@ -22,8 +22,8 @@ module _ {t u : List ℕ} (h : OffChain t u) where
     points : SamePoint t p → SamePoint u p
     points z = record { k = z .k; m = z .m; chained-k = still-chained (z .k) (z .chained-k); chained-m = still-chained (z .m) (z .chained-m); two = z .two; same = z .same }
 
-    rows : NotLower t p → NotLower u p
-    rows z = record { k = z .k; c = z .c; s = z .s; line = still-line (z .line); not-greater = z .not-greater }
+    rows : ChildAbove t p → ChildAbove u p
+    rows z = record { k = z .k; c = z .c; s = z .s; line = still-line (z .line); above = z .above }
 
     crossings : LinesTouch t p → LinesTouch u p
     crossings z = record {
@@ -52,7 +52,7 @@ module _ {t u : List ℕ} (h : OffChain t u) where
     touches = ⊎-map crossings overlaps
 
     turns : OutOfOrder t p → OutOfOrder u p
-    turns z = record { k = z .k; a = z .a; b = z .b; left-line = still-line (z .left-line); right-line = still-line (z .right-line); not-below = z .not-below }
+    turns z = record { k = z .k; a = z .a; b = z .b; left-line = still-line (z .left-line); right-line = still-line (z .right-line); not-ordered = z .not-ordered }
 
 -- The first that holds is the same.
 first-same : {A B R S : Type 0} {v n : ℕ} → (A → B) → (B → A) → (R → S) → (A × (v ≡ n)) ⊎ ((A → ⊥) × R) → (B × (v ≡ n)) ⊎ ((B → ⊥) × S)

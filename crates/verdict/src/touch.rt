@@ -1,8 +1,7 @@
-// Conditions 21 to 23 over lines as numbers: two that end at one point, one that does not go down, two that share a point which does not end both.
+// Conditions 21 to 23 over lines as numbers: two that end at one point, one that goes up, two that share a point which does not end both.
 // No node is held against a line: each node has a line that ends at it, so that a node on a line that it does not end shows as two lines that clash
 // (`touching↔clash`, proofs/Clashes; `clashing`, proofs/Places).
 use sort::sort;
-use sweep::line::HALF;
 use sweep::line::end;
 use sweep::line::start;
 use sweep::meeting::Meeting;
@@ -16,19 +15,16 @@ ghost use Rattle.sort.specs.inner.Order.{Below};
 ghost use Rattle.verdict.specs.Verdict.{FirstOf};
 ghost use Rattle.verdict.specs.inner.Steps.{Rises, lineConditions};
 
-// Does a line between two points not go down?
+// Does a line go up, from a node to a child above it?
 fn rises_at(k: u64) -> bool
     ensures { λ r. ⌜ T r ↔ Rises k ⌝ }
 {
     let p = start(k);
     let q = end(k);
-    if p.row < q.row {
-        return false;
-    }
-    k % HALF != k / HALF
+    q.row < p.row
 }
 
-// Does one of the lines not go down?
+// Does one of the lines go up?
 fn rises(lines: &[u64]) -> bool
     ensures { λ r. ⌜ T r ↔ Below (length (now (lines .entry))) (λ i. Rises (getD (now (lines .entry)) i 0)) ⌝ }
 {

@@ -11,8 +11,8 @@ next-head-requires c κs = search needs
 returns : tie.Need-returns
 returns c = search needs
 
-table-bytes-requires : tie.Need-table-bytes-requires
-table-bytes-requires c κs = search needs
+next-bytes-requires : tie.Need-next-bytes-requires
+next-bytes-requires c κs = search needs
 
 same-length : tie.Need-same-length
 same-length c = search needs
@@ -62,7 +62,7 @@ step-spec =
     (tie.spec
     next-head-requires
     returns
-    table-bytes-requires
+    next-bytes-requires
     same-length
     returns-2
     give-requires

@@ -4,16 +4,15 @@ use mathlib.Core.Logic.{_≢_}
 use mathlib.Core.Bool.{cond}
 use mathlib.Core.List.{List, [], _∷_}
 use Prim.Native.Nat.{ℕ, _+_, _*_, _≤_, _<_}
-use lib.Dec.{T, eqb}
-use lib.IntN.{pos}
-use lib.Signed.{ltZ}
+use lib.Dec.{eqb}
 use lib.ListN.{length, getD}
 use Rattle.segment.specs.declared.Point.{Point}
-use Rattle.segment.specs.Segment.{Clash, cross}
+use Rattle.segment.specs.Segment.{Clash}
 use Rattle.sort.specs.inner.Order.{Below, Pairs}
-use Rattle.sweep.specs.inner.Line.{startOf, endOf, first, last}
+use Rattle.sweep.specs.inner.Line.{startOf, endOf, last}
 use Rattle.table.specs.Table.{Side, records, leftOf, rightOf, linkOf, rootOf, Line}
 use Rattle.verdict.specs.Points.{pointOf}
+use Rattle.verdict.specs.Conditions.{InOrder}
 use Rattle.verdict.specs.Verdict.{Condition, numbered}
 
 -- The point of the node at place i of a list of nodes.
@@ -47,9 +46,9 @@ pub record LinesOf (t p : List ℕ) (n : ℕ) (nodes l : List ℕ) : Type 0 wher
   pub from-parent : (i k : ℕ) (s : Side) → i < n → Line t k s (getD nodes i 0) → startOf (getD l i 0) ≡ pointOf p k
   pub from-itself : (i : ℕ) → i < n → getD nodes i 0 ≡ rootOf t → startOf (getD l i 0) ≡ nodeAt p nodes i
 
--- 22, of one line: it goes from one point to another, and not down
+-- 22, of one line: it ends above its start
 abbrev pub Rises : ℕ → Type 0
-Rises k = (endOf k .row ≤ startOf k .row) × (first k ≢ last k)
+Rises k = endOf k .row < startOf k .row
 
 -- 21 to 23, of the first n lines
 abbrev pub lineConditions : ℕ → List ℕ → List Condition
@@ -64,6 +63,6 @@ pub record Placeable (t p : List ℕ) (k : ℕ) : Type 0 where
   pub links : (s : Side) → linkOf t s k < records t
   pub places : 2 * records t ≤ length p
 
--- 24, of one node: it has two children, and a·d − b·c is not below zero
+-- 24, of one node: it has two children, and they are not in order
 abbrev pub Turned : List ℕ → List ℕ → ℕ → Type 0
-Turned t p k = (leftOf t k ≢ 0) × ((rightOf t k ≢ 0) × (T (ltZ (cross (pointOf p k) (pointOf p (leftOf t k)) (pointOf p (rightOf t k))) (pos 0)) → ⊥))
+Turned t p k = (leftOf t k ≢ 0) × ((rightOf t k ≢ 0) × (InOrder (pointOf p k) (pointOf p (leftOf t k)) (pointOf p (rightOf t k)) → ⊥))

@@ -1,9 +1,9 @@
--- `table_bytes` is safe: the part that is read has the length asked.
+-- `next_bytes` is safe: the part that is read has the length asked.
 use borrow.Author.Needs.{needs}
 use native.Mathlib.Omega.{arith}
 use lib.ListN.{length-take}
-use Rattle.trials.proofs.input.table_bytes.Statement.{statement}
-use Rattle.trials.proofs.input.table_bytes.Tie as tie
+use Rattle.trials.proofs.input.next_bytes.Statement.{statement}
+use Rattle.trials.proofs.input.next_bytes.Tie as tie
 
 slice-relend-prefix-read-full : tie.Need-slice-relend-prefix-read-full
 slice-relend-prefix-read-full c = search needs
@@ -20,8 +20,8 @@ same-length c = search needs
 returns : tie.Need-returns
 returns c = search needs
 
-pub table-bytes-spec : {M : Type 1} → statement M
-table-bytes-spec =
+pub next-bytes-spec : {M : Type 1} → statement M
+next-bytes-spec =
     tie.close
     (tie.spec
     slice-relend-prefix-read-full
