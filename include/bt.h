@@ -34,8 +34,9 @@ uint64_t bt_draw(const uint8_t *table, size_t table_len, uint16_t *placements, s
 uint64_t bt_draw_wide(const uint8_t *table, size_t table_len, uint16_t *placements, size_t placements_len);
 
 /* Checks any placements against a table, and writes nothing. Answers 0 for a good drawing, a refusal 1 to 6, or the first of these that holds:
- *   21 two nodes at one point    22 a child not lower than its parent    23 two lines share more than a common end, or a node lies on a line that it does not end
- *   24 a left child not left of its right sibling, seen from their parent */
+ *   21 two nodes at one point    22 a child above its parent    23 two lines share more than a common end, or a node lies on a line that it does not end
+ *   24 a left child not left of its right sibling, seen from their parent
+ * A child may be level with its parent; of two level children the left one is to be left of the parent, the right one right of it. */
 uint32_t bt_check(const uint8_t *table, size_t table_len, const uint16_t *placements, size_t placements_len);
 
 /* The width that a drawing of so many nodes may have: 3 * floor(log2 nodes) + 1; 0 for 0 nodes and for more than 4,096. The width of

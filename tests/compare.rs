@@ -1,8 +1,8 @@
-// Compares the calls of the library with the reference on fresh random cases: ours (cases.rs), and the reference's own.
+// Compares the calls of the library with the reference on fresh random cases: ours (cases.rs), and the reference's own; and on every small sheet.
 //   compare SEED CASES FOLDER: a share of the calls goes to FOLDER/share for the Python reference, a difference to FOLDER.
 mod oracle;
 use oracle::ours;
-use oracle::reference::cases::Cases;
+use oracle::reference::cases::{every_table, Cases};
 use oracle::reference::{reference_width, Reference};
 use std::fs;
 use std::io::Write;
@@ -16,16 +16,17 @@ struct Run {
     calls: u64,
     shared: u64,
     differences: u64,
-    answers: [[u64; 32]; 5],
+    answers: [[u64; 32]; 6],
 }
 
-/// The calls whose answers are counted; checks of sheets that were made with many level lines by themselves.
-const CALLS: [&str; 5] = ["draw", "wide", "check", "stroke", "check of level lines"];
+/// The calls whose answers are counted; checks of sheets with many level lines, and of every small sheet, by themselves.
+const CALLS: [&str; 6] = ["draw", "wide", "check", "stroke", "check of level lines", "check of every small sheet"];
 const DRAW: usize = 0;
 const WIDE: usize = 1;
 const CHECK: usize = 2;
 const STROKE: usize = 3;
 const LEVEL: usize = 4;
+const EVERY: usize = 5;
 
 /// Where the lifts and the draws of strokes are counted; all other answers are counted by their number.
 const LIFTS: usize = 30;
@@ -134,6 +135,19 @@ impl Run {
         }
     }
 
+    /// Every sheet of a tree of n nodes on a grid of 3 by 3.
+    fn every_sheet(&mut self, n: usize) {
+        for table in every_table(n) {
+            for sheet in 0..9usize.pow(n as u32) {
+                let point = |k: usize| sheet / 9usize.pow(k as u32) % 9;
+                let points = (0..n).flat_map(|k| [point(k) as u16 % 3, point(k) as u16 / 3]);
+                let places: Vec<u16> = [9, 9].into_iter().chain(points).collect();
+                self.sharing = sheet % 11 == 0;
+                self.check(EVERY, &table, &places);
+            }
+        }
+    }
+
     fn width(&mut self, n: u64) {
         let (a, b) = (ours::width(n), reference_width(n));
         self.judge(a == b, format!("width of {n}: ours {a}, reference {b}"), &[], &[]);
@@ -149,7 +163,7 @@ fn main() {
     let share = fs::File::create(format!("{folder}/share")).unwrap();
     let mut run = Run {
         seed, folder, reference: Reference::new(), share,
-        sharing: false, calls: 0, shared: 0, differences: 0, answers: [[0; 32]; 5],
+        sharing: false, calls: 0, shared: 0, differences: 0, answers: [[0; 32]; 6],
     };
     let mut cases = Cases::new(seed);
     for i in 0..count {
@@ -172,6 +186,9 @@ fn main() {
         run.check(CHECK, &case.table, &case.places);
         run.strokes(&mut cases, &case.table, &case.places);
         run.any(cases.seed());
+    }
+    for n in 1..=4 {
+        run.every_sheet(n);
     }
     run.sharing = false;
     for n in (0..5000).chain((0..64).map(|k| 1 << k)).chain((0..64).map(|k| (1 << k) - 1)) {

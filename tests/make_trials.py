@@ -1,8 +1,8 @@
 #!/usr/bin/env python3
 """Makes crates/trials/stdin and crates/trials/stdout anew, always the same, from a fixed seed.
 
-The cases are sheets of document 01, every refusal and every verdict in several ways, and random trees; each table that is drawn is drawn wide as well,
-and each that is refused, and the drawing of each larger random tree, is asked for strokes.
+The cases are sheets of document 01, every refusal and every verdict in several ways, sheets with level lines, and random trees; their parts, and each of
+the sheets with level lines that were made by hand, have names, which are printed. Each table that is drawn is drawn wide as well, and each that is refused, and the drawing of each larger random tree, is asked for strokes.
 What must be printed comes from the reference program alone (reference/racksheet.py), never from our code.
 The form of the cases is told at the head of crates/trials/src/main.rt.
 """
@@ -54,6 +54,7 @@ class Trials:
 
     def name(self, text):
         """What follows, told in the output."""
+        assert len(text) < 256
         self.case(10, len(text), more=text.encode('ascii'))
         self.lines.append(text)
 
@@ -321,66 +322,73 @@ def verdicts(t, rng):
         t.check()
 
 
+TOP = 65535
+LEFT, RIGHT, TWO, PATH = [(2, 0), (0, 0)], [(0, 2), (0, 0)], [(2, 3), (0, 0), (0, 0)], [(2, 0), (3, 0), (0, 0)]
+FOUR, FIVE = [(2, 3), (4, 0), (0, 0), (0, 0)], [(2, 3), (4, 0), (5, 0), (0, 0), (0, 0)]
+
+# Sheets with level lines: the name, the links and the points of 1, 2, .., and what documents 01 and 02 say of them.
+LEVEL_LINES = [
+    ('a left child level, to the left', LEFT, [(1, 0), (0, 0)], 0),
+    ('a left child level, to the right', LEFT, [(0, 0), (1, 0)], 0),
+    ('a right child level, to the left', RIGHT, [(9, 5), (2, 5)], 0),
+    ('a level line across the whole bottom row', RIGHT, [(0, TOP), (TOP, TOP)], 0),
+    ('a child one row above', LEFT, [(0, 1), (5, 0)], 22),
+    ('a child at the other end of the rows above', RIGHT, [(0, TOP), (TOP, 0)], 22),
+    ('level children', TWO, [(1, 0), (0, 0), (2, 0)], 0),
+    ('level children at the ends of a row', TWO, [(32768, TOP), (0, TOP), (TOP, TOP)], 0),
+    ('level children in the other order', TWO, [(1, 0), (2, 0), (0, 0)], 24),
+    ('level children at the ends of a row in the other order', TWO, [(32768, TOP), (TOP, TOP), (0, TOP)], 24),
+    ('level children on the left, the left one nearer', TWO, [(2, 0), (1, 0), (0, 0)], 23),
+    ('level children on the left, the right one nearer', TWO, [(2, 0), (0, 0), (1, 0)], 23),
+    ('level children on the right, the left one nearer', TWO, [(0, 0), (1, 0), (2, 0)], 23),
+    ('level children on the right, the right one nearer', TWO, [(0, 0), (2, 0), (1, 0)], 23),
+    ('the left child level to the left, the right one lower to the right', TWO, [(1, 0), (0, 0), (2, 1)], 0),
+    ('the left child level to the left, the right one straight below', TWO, [(1, 0), (0, 0), (1, 1)], 0),
+    ('the left child level to the left, the right one lower and farther left', TWO, [(2, 0), (1, 0), (0, 1)], 0),
+    ('the left child level to the right, the right one lower to the left', TWO, [(1, 0), (2, 0), (0, 1)], 24),
+    ('the left child level to the right, the right one straight below', TWO, [(1, 0), (2, 0), (1, 1)], 24),
+    ('the left child level to the right, the right one lower and farther right', TWO, [(0, 0), (1, 0), (2, 1)], 24),
+    ('the right child level to the right, the left one lower to the left', TWO, [(1, 0), (0, 1), (2, 0)], 0),
+    ('the right child level to the right, the left one straight below', TWO, [(1, 0), (1, 1), (2, 0)], 0),
+    ('the right child level to the right, the left one lower and farther right', TWO, [(0, 0), (2, 1), (1, 0)], 0),
+    ('the right child level to the left, the left one lower to the right', TWO, [(1, 0), (2, 1), (0, 0)], 24),
+    ('the right child level to the left, the left one straight below', TWO, [(1, 0), (1, 1), (0, 0)], 24),
+    ('the right child level to the left, the left one lower and farther left', TWO, [(2, 0), (0, 1), (1, 0)], 24),
+    ('one child level and one above', TWO, [(1, 1), (0, 1), (2, 0)], 22),
+    ('two level lines that go on in one row', PATH, [(0, 0), (1, 0), (2, 0)], 0),
+    ('two level lines that go on to the left', PATH, [(2, 3), (1, 3), (0, 3)], 0),
+    ('a level line that goes back over the one to its parent', PATH, [(0, 0), (2, 0), (1, 0)], 23),
+    ('a level line that goes back to its grandparent', PATH, [(0, 0), (2, 0), (0, 0)], 21),
+    ('a level line that goes back beyond its grandparent', PATH, [(1, 0), (2, 0), (0, 0)], 23),
+    ('two level lines apart in one row', FIVE, [(4, 0), (0, 1), (5, 1), (3, 1), (7, 1)], 0),
+    ('two level lines that overlap in one row', FIVE, [(4, 0), (0, 1), (2, 1), (3, 1), (7, 1)], 23),
+    ('two level lines that overlap in one row, one of them to the left', FIVE, [(4, 0), (0, 1), (7, 1), (3, 1), (2, 1)], 23),
+    ('two level lines that overlap in one row, both to the left', FIVE, [(4, 0), (3, 1), (7, 1), (0, 1), (2, 1)], 23),
+    ('two level lines in one row, one within the other', FIVE, [(4, 0), (0, 1), (2, 1), (7, 1), (3, 1)], 23),
+    ('two level lines that overlap at the end of the bottom row', FIVE, [(4, 0), (0, TOP), (TOP - 2, TOP), (TOP - 1, TOP), (TOP, TOP)], 23),
+    ('two level lines with one end at one point', FIVE, [(4, 0), (0, 1), (7, 1), (3, 1), (3, 1)], 21),
+    ('two level lines one above the other', FIVE, [(4, 0), (0, 1), (9, 2), (3, 1), (1, 2)], 0),
+    ('a level line through a node', FOUR, [(3, 0), (0, 2), (2, 2), (5, 2)], 23),
+    ('a level line through a node, to the left', FOUR, [(3, 0), (5, 2), (4, 2), (0, 2)], 23),
+    ('a level line that ends a column before a node', FOUR, [(3, 0), (0, 2), (2, 2), (1, 2)], 0),
+    ('a level line a row below a node', FOUR, [(3, 0), (0, 3), (2, 2), (5, 3)], 0),
+    ('a level line through the root', FOUR, [(3, 0), (0, 0), (4, 1), (5, 0)], 23),
+    ('a level line that touches a steep one with its end', FOUR, [(4, 0), (0, 4), (4, 8), (4, 4)], 23),
+    ('a level line that ends a column before a steep one', FOUR, [(4, 0), (0, 4), (4, 8), (3, 4)], 0),
+    ('a level line that crosses a steep one', FOUR, [(4, 0), (0, 4), (4, 8), (5, 4)], 23),
+    ('a level line that touches a slanting one with its end', FOUR, [(2, 0), (0, 4), (6, 8), (4, 4)], 23),
+    ('a level line that crosses a slanting one between columns', FOUR, [(2, 0), (0, 4), (5, 8), (4, 4)], 23),
+    ('a level line that ends just before a slanting one that passes between columns', FOUR, [(2, 0), (0, 4), (5, 8), (3, 4)], 0),
+    ('a steep line that touches a level one with its end', FIVE, [(4, 0), (0, 4), (6, 1), (9, 4), (6, 4)], 23),
+    ('a steep line that ends a row above a level one', FIVE, [(4, 0), (0, 4), (6, 1), (9, 4), (6, 3)], 0),
+    ('a steep line from a node on a level one', FIVE, [(4, 0), (0, 4), (6, 4), (9, 4), (6, 9)], 23),
+    ('level children in the other order, and lines that overlap', FIVE, [(4, 0), (5, 0), (0, 0), (5, 1), (9, 0)], 23),
+]
+
+
 def level_lines(t):
-    """Sheets with level lines, by name: the links, the points of 1, 2, .., and what documents 01 and 02 say of them."""
-    top = 65535
-    left, right, two, path = [(2, 0), (0, 0)], [(0, 2), (0, 0)], [(2, 3), (0, 0), (0, 0)], [(2, 0), (3, 0), (0, 0)]
-    four, five = [(2, 3), (4, 0), (0, 0), (0, 0)], [(2, 3), (4, 0), (5, 0), (0, 0), (0, 0)]
-    for name, links, points, verdict in [
-        ('a left child level, to the left', left, [(1, 0), (0, 0)], 0),
-        ('a left child level, to the right', left, [(0, 0), (1, 0)], 0),
-        ('a right child level, to the left', right, [(9, 5), (2, 5)], 0),
-        ('a level line across the whole bottom row', right, [(0, top), (top, top)], 0),
-        ('a child one row above', left, [(0, 1), (5, 0)], 22),
-        ('a child at the other end of the rows above', right, [(0, top), (top, 0)], 22),
-        ('level children', two, [(1, 0), (0, 0), (2, 0)], 0),
-        ('level children at the ends of a row', two, [(32768, top), (0, top), (top, top)], 0),
-        ('level children in the other order', two, [(1, 0), (2, 0), (0, 0)], 24),
-        ('level children at the ends of a row in the other order', two, [(32768, top), (top, top), (0, top)], 24),
-        ('level children on the left, the left one nearer', two, [(2, 0), (1, 0), (0, 0)], 23),
-        ('level children on the left, the right one nearer', two, [(2, 0), (0, 0), (1, 0)], 23),
-        ('level children on the right, the left one nearer', two, [(0, 0), (1, 0), (2, 0)], 23),
-        ('level children on the right, the right one nearer', two, [(0, 0), (2, 0), (1, 0)], 23),
-        ('the left child level to the left, the right one lower to the right', two, [(1, 0), (0, 0), (2, 1)], 0),
-        ('the left child level to the left, the right one straight below', two, [(1, 0), (0, 0), (1, 1)], 0),
-        ('the left child level to the left, the right one lower and farther left', two, [(2, 0), (1, 0), (0, 1)], 0),
-        ('the left child level to the right, the right one lower to the left', two, [(1, 0), (2, 0), (0, 1)], 24),
-        ('the left child level to the right, the right one straight below', two, [(1, 0), (2, 0), (1, 1)], 24),
-        ('the left child level to the right, the right one lower and farther right', two, [(0, 0), (1, 0), (2, 1)], 24),
-        ('the right child level to the right, the left one lower to the left', two, [(1, 0), (0, 1), (2, 0)], 0),
-        ('the right child level to the right, the left one straight below', two, [(1, 0), (1, 1), (2, 0)], 0),
-        ('the right child level to the right, the left one lower and farther right', two, [(0, 0), (2, 1), (1, 0)], 0),
-        ('the right child level to the left, the left one lower to the right', two, [(1, 0), (2, 1), (0, 0)], 24),
-        ('the right child level to the left, the left one straight below', two, [(1, 0), (1, 1), (0, 0)], 24),
-        ('one child level and one above', two, [(1, 1), (0, 1), (2, 0)], 22),
-        ('two level lines that go on in one row', path, [(0, 0), (1, 0), (2, 0)], 0),
-        ('two level lines that go on to the left', path, [(2, 3), (1, 3), (0, 3)], 0),
-        ('a level line that goes back over the one to its parent', path, [(0, 0), (2, 0), (1, 0)], 23),
-        ('a level line that goes back to its grandparent', path, [(0, 0), (2, 0), (0, 0)], 21),
-        ('a level line that goes back beyond its grandparent', path, [(1, 0), (2, 0), (0, 0)], 23),
-        ('two level lines apart in one row', five, [(4, 0), (0, 1), (5, 1), (3, 1), (7, 1)], 0),
-        ('two level lines that overlap in one row', five, [(4, 0), (0, 1), (2, 1), (3, 1), (7, 1)], 23),
-        ('two level lines that overlap in one row, one to the left', five, [(4, 0), (3, 1), (7, 1), (0, 1), (2, 1)], 23),
-        ('two level lines in one row, one within the other', five, [(4, 0), (0, 1), (2, 1), (7, 1), (3, 1)], 23),
-        ('two level lines that overlap at the end of the bottom row', five, [(4, 0), (0, top), (2, top), (top, top), (top - 1, top)], 23),
-        ('two level lines with one end at one point', five, [(4, 0), (0, 1), (7, 1), (3, 1), (3, 1)], 21),
-        ('two level lines one above the other', five, [(4, 0), (0, 1), (9, 2), (3, 1), (1, 2)], 0),
-        ('a level line through a node', four, [(3, 0), (0, 2), (2, 2), (5, 2)], 23),
-        ('a level line through a node, to the left', four, [(3, 0), (5, 2), (4, 2), (0, 2)], 23),
-        ('a level line that ends a column before a node', four, [(3, 0), (0, 2), (2, 2), (1, 2)], 0),
-        ('a level line a row below a node', four, [(3, 0), (0, 3), (2, 2), (5, 3)], 0),
-        ('a level line through the root', four, [(3, 0), (0, 0), (4, 1), (5, 0)], 23),
-        ('a level line that touches a steep one with its end', four, [(4, 0), (0, 4), (4, 8), (4, 4)], 23),
-        ('a level line that ends a column before a steep one', four, [(4, 0), (0, 4), (4, 8), (3, 4)], 0),
-        ('a level line that crosses a steep one', four, [(4, 0), (0, 4), (4, 8), (5, 4)], 23),
-        ('a level line that touches a slanting one with its end', four, [(2, 0), (0, 4), (6, 8), (4, 4)], 23),
-        ('a level line that crosses a slanting one between columns', four, [(2, 0), (0, 4), (5, 8), (4, 4)], 23),
-        ('a level line that ends between a slanting one and its column', four, [(2, 0), (0, 4), (5, 8), (3, 4)], 0),
-        ('a steep line that touches a level one with its end', five, [(4, 0), (0, 4), (6, 1), (9, 4), (6, 4)], 23),
-        ('a steep line that ends a row above a level one', five, [(4, 0), (0, 4), (6, 1), (9, 4), (6, 3)], 0),
-        ('a steep line from a node on a level one', five, [(4, 0), (0, 4), (6, 4), (9, 4), (6, 9)], 23),
-        ('level children in the other order, and lines that overlap', five, [(4, 0), (5, 0), (0, 0), (5, 1), (9, 0)], 23),
-    ]:
+    """The sheets with level lines that were made by hand."""
+    for name, links, points, verdict in LEVEL_LINES:
         t.name(name)
         t.table(packed(plain(links)))
         t.numbers([0, 0] + [x for point in points for x in point])
@@ -397,7 +405,7 @@ def stored(points, record, records):
 
 
 def loose(tree, rng):
-    """Any columns, and rows that fall from level to level, over the whole range."""
+    """Any columns, and rows that fall from depth to depth, over the whole range."""
     step = 65536 // (max(tree.depth) + 1)
     return [(rng.choice((0, 65535, rng.randrange(65536), rng.randrange(65536))), d * step + rng.randrange(step))
             for d in tree.depth]
@@ -424,12 +432,12 @@ def moved(tree, points, rng):
 
 
 def check_case(rng, level=False):
-    """A table and placements for a check: of any sheet, or of one with many level lines, of which most are good."""
+    """A table and placements for a check: of any sheet, or of one with many level lines."""
     tree = rng.choice(trees.shapes(rng)[3 if level else 5:])[1](rng.randint(2, 12 if level else 16))
     data, record = trees.table(tree, rng, extra=rng.randint(0, 2))
     way = rng.randrange(6)
     if level:
-        points = stretched(tree, trees.trays(tree, rng, 0.2 if way == 0 else 0.0), rng)
+        points = stretched(tree, trees.level_runs(tree, rng, 0.2 if way == 0 else 0.0), rng)
     else:
         points = loose(tree, rng) if way == 0 else stretched(tree, trees.layers(tree), rng)
     if way == 1:                            # seen in a mirror: clean lines, children out of order
@@ -481,7 +489,7 @@ def random_checks(t, rng, count, make):
 
 
 def large_checks(t, rng, points_of):
-    """Wide, low drawings, whose lines are sorted by columns: good ones, and some with a few nodes moved."""
+    """Wide, low drawings, whose lines are mostly sorted by columns: good ones, and some with a few nodes moved."""
     for name, make in trees.shapes(rng)[5:]:
         for n in (rng.randint(60, 200), rng.randint(513, 700)):
             tree = make(n)
@@ -564,7 +572,7 @@ def random_trees(t, rng):
 
 def main():
     t = Trials()
-    trays = seeded('trays')
+    runs = seeded('level runs')
     for name, part in [
         ('sheets worked by hand', lambda: worked(t)),
         ('refusals', lambda: refusals(t)),
@@ -578,7 +586,7 @@ def main():
         ('cases that tell slips', lambda: telling(t)),
         ('random trees', lambda: random_trees(t, seeded('trees'))),
         ('large layered sheets', lambda: large_checks(t, seeded('level'), trees.layers)),
-        ('large sheets of level lines', lambda: large_checks(t, trays, lambda tree: trees.trays(tree, trays))),
+        ('large sheets of level lines', lambda: large_checks(t, runs, lambda tree: trees.level_runs(tree, runs))),
         ('turned wide drawings', lambda: turned(t, seeded('turned'))),
     ]:
         t.name(name)

@@ -87,7 +87,7 @@ SLIPS = [
      ON, 'if False and'),
     ('check', 'cross products cut to 32 bits', CROSS, 'to32(' + CROSS + ')', TIMES, 'return to32(u[0] * v[1] - u[1] * v[0])'),
     ('check', 'the products of 24 cut to 32 bits', ORDER, ORDER.replace('a * d - b * c', 'to32(a * d - b * c)')),
-    ('check', '24 with the sides exchanged', ORDER, ORDER.replace('<', '>')),
+    ('check', '24 with the sides exchanged', ORDER, ORDER.replace('<', '>'), LEVEL, LEVEL.replace('a < 0 and c > 0', 'a > 0 and c < 0')),
     ('level', '22 with "not greater"', EQUAL, 'if at[c][1] == at[b][1]'),
     ('level', 'level children are never in order', LEVEL, 'level = False'),
     ('level', 'level children are in order either way', LEVEL, LEVEL.replace('a < 0 and c > 0', 'a * c < 0')),

@@ -1,4 +1,4 @@
-"""Ordered binary trees of many shapes, and their tables. Nothing here knows how a tree is drawn."""
+"""Ordered binary trees of many shapes, their tables, and sheets of them that the drawer does not make. Nothing here knows how it draws."""
 
 
 class Tree:
@@ -174,9 +174,9 @@ def layers(tree):
     return points
 
 
-def trays(tree, rng, wrong=0.0):
-    """A drawing with many level lines: the columns of layers, and each child level with its parent or lower, as it falls out.
-    It is good but where a level line goes back over the one to its parent, for which a child is set so rarely, or not at all."""
+def level_runs(tree, rng, wrong=0.0):
+    """A drawing with many level lines: the columns of layers, and each child level with its parent or in the row below, as it falls out.
+    It is good but where a level line goes back over the one to its parent: wrong is how likely that is where it can be."""
     points, likely = layers(tree), rng.choice((0.3, 0.6, 0.9, 1.0))
     row, came = [0] * (tree.n + 1), [None] * (tree.n + 1)                   # came: the side of a level line to the node
     for v in range(1, tree.n + 1):

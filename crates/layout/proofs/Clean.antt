@@ -76,7 +76,7 @@ Before P A B = P .column * A .row + A .column * B .row + B .column * P .row < P 
 pub record Clean (L : Layout) : Type 0 where
   -- 21
   pub distinct : (n m : Node L) → point n ≡ point m → n ≡ m
-  -- 22
+  -- more than 22 asks: never level
   pub lower : (l : Edge L) → point (parent l) .row < point (child l) .row
   -- 23
   pub planar : (l m : Edge L) → l ≢ m → (q x y : ℕ) → 1 ≤ q → OnEdge l q x y → OnEdge m q x y → (n : Node L) × Ends n l × Ends n m × Is (point n) q x y

@@ -33,7 +33,7 @@ pub data Child (k c : ℕ) : Side → Tree → Type 0 where
 pub record Checked (t : Tree) (plan : ℕ → Point) : Type 0 where
   -- 21
   pub distinct : (k m : ℕ) → IsNode k t → IsNode m t → k ≢ m → plan k ≢ plan m
-  -- 22
+  -- more than 22 asks: never level
   pub lower : (k c : ℕ) (s : Side) → Child k c s t → plan k .row < plan c .row
   -- 23
   pub planar : (k c m d : ℕ) (s u : Side) → Child k c s t → Child m d u t → ¬ ((k ≡ m) × (c ≡ d)) → (q x y : ℕ) → 1 ≤ q → On (plan k) (plan c) q x y → On (plan m) (plan d) q x y →
