@@ -503,7 +503,7 @@ def large_checks(t, rng, points_of):
 
 
 def telling(t):
-    """For each slip of a drawing, a check or a stroke, a dozen cases that tell it."""
+    """For each slip of a drawing, a check or a stroke, up to a dozen cases that tell it."""
     for kind, name, *changes in slips.SLIPS:
         if kind == 'table':
             continue
