@@ -1,7 +1,7 @@
-// Times draw, wide draw, check, strokes and the whole program beside the Rust reference, and wide draw beside draw, in one run.
+// Times draw, wide draw, check, strokes, hang, cut and the whole program beside the Rust reference, and wide draw beside draw, in one run.
 //   bench PLAN REFERENCE FOLDER: the two programs, and a folder for the tables
 mod oracle;
-use oracle::reference::cases::{timed_sheet, timed_table, SHAPES, SHEETS};
+use oracle::reference::cases::{timed_room, timed_sheet, timed_table, SHAPES, SHEETS};
 use oracle::reference::Reference;
 use oracle::{ours, UPTO};
 use std::fs::File;
@@ -61,6 +61,24 @@ fn strokes(theirs: &mut Reference, table: &[u8], places: &[u16]) -> String {
     row("all strokes", (a, b)) + &row("mean", (a / count as f64, b / count as f64)) + &row("last", timed(count - 1))
 }
 
+/// The times of a hang, and of the cut of what was hung; each with a copy of the table, on which it is done.
+fn changes(theirs: &mut Reference, n: usize, free: usize) -> String {
+    let (before, parent, side) = timed_room(n, free);
+    let (mut a, mut b) = (before.clone(), before.clone());
+    let (hung, other) = (ours::hang(&mut a, parent, side, 7), theirs.hang(&mut b, parent, side, 7));
+    assert!(hung == other && hung >> 16 != 0 && a == b);
+    let (after, record) = (a.clone(), (hung >> 16) as u16);
+    assert_eq!((ours::cut(&mut a, record), theirs.cut(&mut b, record)), (0, 0));
+    assert!(a == before && b == before);
+    let hangs = two(
+        || { a.copy_from_slice(&before); black_box(ours::hang(black_box(&mut a), parent, side, 7)); },
+        || { b.copy_from_slice(&before); black_box(theirs.hang(black_box(&mut b), parent, side, 7)); });
+    let cuts = two(
+        || { a.copy_from_slice(&after); black_box(ours::cut(black_box(&mut a), record)); },
+        || { b.copy_from_slice(&after); black_box(theirs.cut(black_box(&mut b), record)); });
+    row("hang", hangs) + &row("cut", cuts)
+}
+
 /// A wide draw of 4,096 nodes may take so many times as long as our plain draw.
 const WIDE_ALLOWED: f64 = 1.5;
 
@@ -116,6 +134,12 @@ fn main() {
             let mut places = vec![0u16; 2 * (n + 1)];
             ours::draw(&table, &mut places);
             println!("{n:>4} {shape:<12}{}", strokes(&mut theirs, &table, &places));
+        }
+    }
+    println!("hanging and cutting at the end of the chain, in tables of so many records beside the head");
+    for n in [64, 512, 4096] {
+        for (what, free) in [("half of them free", n / 2), ("one of them free", 1)] {
+            println!("{n:>4} {what:<18}{}", changes(&mut theirs, n, free));
         }
     }
     println!("sheets that the drawer did not make");

@@ -1,8 +1,8 @@
-// Compares the calls of the library with the reference on fresh random cases: ours (cases.rs), and the reference's own; and on every small sheet.
+// Compares the calls of the library with the reference on fresh random cases: ours (cases.rs), and the reference's own; and on every small sheet and table.
 //   compare SEED CASES FOLDER: a share of the calls goes to FOLDER/share for the Python reference, a difference to FOLDER.
 mod oracle;
 use oracle::ours;
-use oracle::reference::cases::{every_table, Cases};
+use oracle::reference::cases::{every_small_table, every_table, Cases, Change};
 use oracle::reference::{reference_width, Reference};
 use std::fs;
 use std::io::Write;
@@ -16,17 +16,26 @@ struct Run {
     calls: u64,
     shared: u64,
     differences: u64,
-    answers: [[u64; 32]; 6],
+    answers: [[u64; 32]; 11],
 }
 
-/// The calls whose answers are counted; checks of sheets with many level lines, and of every small sheet, by themselves.
-const CALLS: [&str; 6] = ["draw", "wide", "check", "stroke", "check of level lines", "check of every small sheet"];
+/// The calls whose answers are counted; checks of sheets with many level lines, of every small sheet, and calls on every small table, by themselves.
+const CALLS: [&str; 11] = [
+    "draw", "wide", "check", "stroke", "check of level lines", "check of every small sheet", "hang", "cut", "draw of every small table",
+    "hang of every small table", "cut of every small table",
+];
 const DRAW: usize = 0;
 const WIDE: usize = 1;
 const CHECK: usize = 2;
 const STROKE: usize = 3;
 const LEVEL: usize = 4;
 const EVERY: usize = 5;
+const HANG: usize = 6;
+const CUT: usize = 7;
+const SMALL_DRAW: usize = 8;
+
+/// A hang or a cut of every small table is counted so many places behind HANG or CUT.
+const SMALL: usize = 3;
 
 /// Where the lifts and the draws of strokes are counted; all other answers are counted by their number.
 const LIFTS: usize = 30;
@@ -68,13 +77,19 @@ impl Run {
         self.shared += 1;
     }
 
+    /// A call has been answered: the same by both, or not.
     fn judge(&mut self, same: bool, what: String, table: &[u8], before: &[u16]) {
         self.calls += 1;
-        if same {
+        self.hold(same, what, table, before);
+    }
+
+    /// What must be, of calls that have been counted.
+    fn hold(&mut self, holds: bool, what: String, table: &[u8], before: &[u16]) {
+        if holds {
             return;
         }
         self.differences += 1;
-        let stem = format!("{}/difference-{}-{}", self.folder, self.seed, self.calls);
+        let stem = format!("{}/difference-{}-{}-{}", self.folder, self.seed, self.calls, self.differences);
         fs::write(format!("{stem}.table"), table).unwrap();
         fs::write(format!("{stem}.places"), bytes_of(before)).unwrap();
         fs::write(format!("{stem}.txt"), format!("{what}\n")).unwrap();
@@ -135,6 +150,62 @@ impl Run {
         }
     }
 
+    /// A hang or a cut, counted so many places behind; every byte of the table afterwards is compared. For the other reference: what is asked, and that table.
+    fn change(&mut self, behind: usize, table: &mut [u8], change: Change) -> u32 {
+        let before = table.to_vec();
+        let mut theirs = before.clone();
+        let (call, which, mut more, a, b) = match change {
+            Change::Hang(parent, side, tag) => {
+                let asked = [parent.to_le_bytes(), tag.to_le_bytes(), [side, 0]].concat();
+                (HANG, b'h', asked, ours::hang(table, parent, side, tag), self.reference.hang(&mut theirs, parent, side, tag))
+            }
+            Change::Cut(node) => (CUT, b'k', node.to_le_bytes().to_vec(), ours::cut(table, node), self.reference.cut(&mut theirs, node)),
+        };
+        self.answers[call + behind][(b & 31) as usize] += 1;
+        more.extend_from_slice(table);
+        self.to_share(which, &before, &[], a as u64, &more);
+        let told = format!("{} {change:?}: ours {a:#x}, reference {b:#x}, tables {}", CALLS[call], if *table == theirs { "equal" } else { "differ" });
+        self.judge(a == b && *table == theirs, told, &before, &[]);
+        a
+    }
+
+    /// A few calls one after the other. What was just hung is at times cut off again, which restores every byte.
+    fn changes(&mut self, cases: &mut Cases, table: &[u8]) {
+        let mut table = table.to_vec();
+        for _ in 0..1 + cases.below(6) {
+            let before = table.clone();
+            let change = cases.change(&table);
+            let record = self.change(0, &mut table, change) >> 16;
+            if record != 0 && cases.below(3) == 0 {
+                let answer = self.change(0, &mut table, Change::Cut(record as u16));
+                self.hold(answer == 0 && table == before, format!("cut of {record}, just hung by {change:?}: {answer}"), &before, &[]);
+            }
+        }
+    }
+
+    /// A free chain of n records hung whole, and cut off again.
+    fn grown(&mut self, cases: &mut Cases, n: usize) {
+        let (mut table, calls) = cases.grown(n);
+        for change in calls {
+            let answer = self.change(0, &mut table, change);
+            self.hold(answer & 0xffff == 0, format!("{change:?}, of a chain of {n}: refused {answer}"), &table, &[]);
+        }
+    }
+
+    /// Every small table: drawn, a node hung at each place, and each record cut.
+    fn every_small_table(&mut self) {
+        for (i, table) in every_small_table().enumerate() {
+            self.sharing = i % 61 == 0;
+            self.draw(SMALL_DRAW, &table, &mut [7; 6]);
+            for place in 0..6 {
+                self.change(SMALL, &mut table.clone(), Change::Hang(place / 2, place as u8 % 2, 5));
+            }
+            for node in 0..3 {
+                self.change(SMALL, &mut table.clone(), Change::Cut(node));
+            }
+        }
+    }
+
     /// Every sheet of a tree of n nodes on a grid of 3 by 3.
     fn every_sheet(&mut self, n: usize) {
         for table in every_table(n) {
@@ -163,7 +234,7 @@ fn main() {
     let share = fs::File::create(format!("{folder}/share")).unwrap();
     let mut run = Run {
         seed, folder, reference: Reference::new(), share,
-        sharing: false, calls: 0, shared: 0, differences: 0, answers: [[0; 32]; 6],
+        sharing: false, calls: 0, shared: 0, differences: 0, answers: [[0; 32]; 11],
     };
     let mut cases = Cases::new(seed);
     for i in 0..count {
@@ -185,8 +256,14 @@ fn main() {
         }
         run.check(CHECK, &case.table, &case.places);
         run.strokes(&mut cases, &case.table, &case.places);
+        run.changes(&mut cases, &case.table);
         run.any(cases.seed());
     }
+    for n in [1, 2, 3, 10, 30, 100, 1000, 4096] {
+        run.sharing = n < 100;
+        run.grown(&mut cases, n);
+    }
+    run.every_small_table();
     for n in 1..=4 {
         run.every_sheet(n);
     }

@@ -78,6 +78,18 @@ while at < len(data):
         if (answer, found) != (wanted, struct.pack('<%dd' % floats, *point)):
             save('stroke', table, before, 'number %d, pitch %d: ours %#x %s, reference %#x %s' %
                  (number, pitch, answer, struct.unpack('<%dd' % floats, found), wanted, point))
+    elif which in b'hk':
+        asked = struct.unpack('<HHBB', take(6)) if which == b'h' else struct.unpack('<H', take(2))
+        after = take(size)
+        if which == b'h':
+            parent, tag, side, _ = asked
+            refusal, record, left = racksheet.hang(table, parent, side, tag, UPTO)
+            wanted = refusal | record << 16
+        else:
+            wanted, left = racksheet.cut(table, *asked, UPTO)
+        if (answer, after) != (wanted, left):
+            save('hang' if which == b'h' else 'cut', table, [], '%s: ours %#x, reference %#x, tables %s' %
+                 (asked, answer, wanted, 'equal' if after == left else 'differ'))
     else:
         wanted = racksheet.check(table, before, UPTO)
         if answer != wanted:

@@ -1,13 +1,15 @@
 #!/usr/bin/env python3
 """Makes crates/trials/stdin and crates/trials/stdout anew, always the same, from a fixed seed.
 
-The cases are sheets of document 01, every refusal and every verdict in several ways, sheets with level lines, and random trees; their parts, and each of
-the sheets with level lines that were made by hand, have names, which are printed. Each table that is drawn is drawn wide as well, and each that is refused, and the drawing of each larger random tree, is asked for strokes.
+The cases are sheets of document 01, every refusal and every verdict in several ways, sheets with level lines, random trees, and hangs and cuts (hang_cut.py);
+their parts, and each of the sheets with level lines, free chains and series of calls that were made by hand, have names, which are printed. Each table that is drawn
+is drawn wide as well; each that is refused, and the drawing of each larger random tree, is asked for strokes; and each that is refused for its bytes is asked to hang and to cut.
 What must be printed comes from the reference program alone (reference/racksheet.py), never from our code.
 The form of the cases is told at the head of crates/trials/src/main.rt.
 """
 import os
 import random
+import re
 import struct
 import sys
 from fractions import Fraction
@@ -15,11 +17,12 @@ from fractions import Fraction
 here = os.path.dirname(os.path.abspath(__file__))
 sys.path[:0] = [here, os.path.join(here, 'reference')]
 sys.dont_write_bytecode = True
+import hang_cut
 import racksheet
 import slips
 import trees
 from slips import UPTO
-from trees import packed
+from trees import packed, plain
 
 SEED = 20240501
 ALL_UP_TO = 600                     # placements that are printed one by one
@@ -115,8 +118,32 @@ class Trials:
         else:
             self.lines.append('stroke %s %d %d' % ('lift' if kind == racksheet.LIFT else 'draw', *map(bits, point)))
 
-    def every(self, data, first=0, step=0, short=0, extra=0, pitches=(0, 255)):
-        """Draws a table wide, then draws it and checks the drawing, on placements that tell which were kept; a refused one is asked for strokes too."""
+    def changed_records(self, before):
+        """The records that a call has changed."""
+        assert len(before) == len(self.bytes)
+        for at in range(0, len(before), 8):
+            if before[at:at + 8] != self.bytes[at:at + 8]:
+                self.lines.append(' '.join(['record', str(at // 8)] + [str(w) for w in slips.words(self.bytes[at:at + 8])]))
+
+    def hang(self, parent, side, tag):
+        self.case(11, parent, side, tag)
+        before = self.bytes
+        refusal, record, self.bytes = racksheet.hang(before, parent, side, tag, UPTO)
+        self.lines.append('hang refused %d' % refusal if refusal else 'hang %d' % record)
+        self.changed_records(before)
+        return record
+
+    def cut(self, node):
+        self.case(12, node)
+        before = self.bytes
+        refusal, self.bytes = racksheet.cut(before, node, UPTO)
+        self.lines.append('cut %d' % refusal)
+        self.changed_records(before)
+        return refusal
+
+    def every(self, data, first=0, step=0, short=0, extra=0, pitches=(0, 255), leaf=1):
+        """Draws a table wide, then draws it and checks the drawing, on placements that tell which were kept; a refused one is asked for strokes too,
+        and, if its bytes are the cause, to hang a node where none can be had and below a leaf, and to cut off none and that leaf."""
         count = max(0, 2 * (len(data) // 8) - short) + extra
         self.table(data)
         self.filled(count, first, step)
@@ -124,17 +151,15 @@ class Trials:
         self.filled(count, first, step)
         refusal = self.draw()
         self.check()
+        assert self.lines[-1] == 'check %d' % refusal
         for pitch in pitches if refusal else ():
             self.stroke(pitch, 0)
-
-
-def plain(links, root=1, tag=100, head=None):
-    """A table of the given (left, right), chained in order from 1."""
-    n = len(links)
-    words = [head or [1 if n else 0, root, 0, 0]]
-    for k, (a, b) in enumerate(links, 1):
-        words.append([k + 1 if k < n else 0, a, b, tag + k])
-    return words
+            assert self.lines[-1] == 'stroke refused %d' % refusal
+        for node in (0, leaf) if refusal not in (0, 6) else ():
+            self.hang(node, 0, 7)
+            self.cut(node)
+            assert self.lines[-2:] == ['hang refused %d' % refusal, 'cut %d' % refusal]
+        return refusal
 
 
 def worked(t):
@@ -188,28 +213,20 @@ def worked(t):
             (full, 0, 0), (full + [[0, 0, 0, 0]], 0, 1),                    # 32,776 bytes may be accepted, 32,784 gives 1
             ([[0, 1, 0, 0]], 0, 5), (plain([(2, 2), (0, 0)]), 0, 5),        # head alone with root 1; left and right naming one
             (plain([(2, 3), (0, 0), (0, 0)]), 1, 6)):                       # placements one number short
-        t.every(packed(words), 9, 11, short=short)
-        says('check %d' % answer, back=3 if answer else 1)
-        says('stroke refused %d' % answer if answer else 'check 0')
+        assert t.every(packed(words), 9, 11, short=short) == answer
 
 
 def refusals(t):
     """Every refusal in several ways, and which comes first where several causes hold."""
-    good = plain([(2, 3), (0, 0), (4, 5), (0, 0), (6, 0), (0, 0)])
-
-    def edited(*edits, base=good):
-        words = [list(w) for w in base]
-        for k, j, x in edits:
-            words[k][j] = x
-        return packed(words)
-
+    good = hang_cut.SIX
     data = packed(good)
     for length in (0, 1, 7, 9, 15, 17, 55):                                 # 1
         t.every(data[:length], 9, 1)
     for length in (32775, 32777, 40000, 65535):
         t.every((data + bytes(65536))[:length], 9, 1)
     t.every(data[:8], 9, 1)                                                  # the head alone, its chain cut off
-    head = [[(0, 2, 1)], [(0, 3, 1)], [(0, 2, 65535), (0, 3, 256)], [(0, 2, 256), (0, 0, 99)]]  # 2
+    head = [[(0, 3, 1)], [(0, 2, 65535), (0, 3, 256)], [(0, 3, 256), (0, 0, 99)], [(0, 3, 1), (6, 0, 1)], [(0, 3, 1), (0, 1, 0)],   # 2
+            [(0, 2, 1)], [(0, 2, 256), (0, 0, 99)]]                         # 8, 3
     chain = [[(0, 0, 7)], [(0, 0, 65535)], [(6, 0, 1)], [(6, 0, 6)], [(6, 0, 3)], [(6, 0, 7)], [(1, 0, 1)],
              [(3, 0, 2)], [(6, 0, 256)], [(6, 0, 7), (2, 1, 50)]]           # 3
     links = [[(2, 1, 7)], [(2, 2, 65535)], [(1, 1, 4096)], [(5, 0, 0)], [(0, 0, 2)], [(2, 2, 256), (3, 1, 3)]]  # 4
@@ -217,8 +234,8 @@ def refusals(t):
             [(6, 2, 1)], [(2, 1, 4)], [(2, 1, 2)], [(6, 1, 6)], [(1, 1, 0)], [(1, 2, 2)], [(1, 2, 0), (6, 1, 3)],
             [(5, 1, 5)], [(1, 2, 0)], [(1, 2, 0), (4, 2, 3)], [(0, 0, 0), (0, 1, 6)]]                           # 5
     for edits in head + chain + links + tree:
-        t.every(edited(*edits), 1000, 3)
-        t.every(edited(*edits), 1000, 3, short=2)
+        t.every(packed(hang_cut.edited(good, *edits)), 1000, 3, leaf=6)
+        t.every(packed(hang_cut.edited(good, *edits)), 1000, 3, short=2, leaf=6)
     two = plain([(0, 0), (3, 0), (2, 0)])                                   # a cycle off the root
     t.every(packed(two), 1, 1)
     long = plain([(0, 0)] * 4096)                                           # a long chain that runs into itself
@@ -503,28 +520,36 @@ def large_checks(t, rng, points_of):
 
 
 def telling(t):
-    """For each slip of a drawing, a check or a stroke, up to a dozen cases that tell it."""
+    """For each slip of a drawing, a check, a stroke, a hang or a cut, up to a dozen cases that tell it."""
+    makers = {'check': check_case, 'level': level_case, 'stroke': stroke_case, 'hang': hang_cut.hang_case, 'cut': hang_cut.cut_case}
     for kind, name, *changes in slips.SLIPS:
-        if kind == 'table':
+        if len(slips.CALLS[kind]) > 1:
             continue
         t.name('%s: %s' % (kind, name))
         rng = seeded(kind + ': ' + name)
         ask, = slips.CALLS[kind]
         wrong, told = slips.reference(changes), 0
         for _ in range(20000):
-            data, places, *more = {'check': check_case, 'level': level_case, 'stroke': stroke_case}.get(kind, draw_case)(rng)
-            if slips.answer(wrong, ask, data, places, *more) != slips.answer(racksheet, ask, data, places, *more):
+            case = makers.get(kind, draw_case)(rng)
+            if slips.answer(wrong, ask, *case) != slips.answer(racksheet, ask, *case):
                 told += 1
-                t.table(data)
-                if kind in ('check', 'level', 'stroke'):
-                    t.numbers(places)
-                else:
-                    t.filled(len(places), *SEQUENCE)
-                {'draw': t.draw, 'check': t.check, 'level': t.check, 'wide': t.wide, 'stroke': t.stroke}[kind](*more)
-                if kind == 'draw':
-                    t.check()
+                asked(t, kind, *case)
             if told == 12:
                 break
+
+
+def asked(t, kind, data, *more):
+    """A case of a call, stored."""
+    t.table(data)
+    if kind in ('check', 'level', 'stroke'):
+        t.numbers(more[0])
+        more = more[1:]
+    elif kind in ('draw', 'wide'):
+        t.filled(len(more[0]), *SEQUENCE)
+        more = more[1:]
+    {'draw': t.draw, 'check': t.check, 'level': t.check, 'wide': t.wide, 'stroke': t.stroke, 'hang': t.hang, 'cut': t.cut}[kind](*more)
+    if kind == 'draw':
+        t.check()
 
 
 def turned(t, rng):
@@ -588,6 +613,14 @@ def main():
         ('large layered sheets', lambda: large_checks(t, seeded('level'), trees.layers)),
         ('large sheets of level lines', lambda: large_checks(t, runs, lambda tree: trees.level_runs(tree, runs))),
         ('turned wide drawings', lambda: turned(t, seeded('turned'))),
+        ('free chains', lambda: hang_cut.free_chains(t)),
+        ('calls one after the other', lambda: hang_cut.changes(t)),
+        ('a node hung at every place', lambda: hang_cut.every_place(t, seeded('every place'))),
+        ('every record cut', lambda: hang_cut.every_cut(t, seeded('every cut'))),
+        ('random calls', lambda: hang_cut.random_calls(t, seeded('calls'))),
+        ('tables grown and cut down', lambda: hang_cut.grown(t, seeded('grown'))),
+        ('damaged tables with free chains', lambda: hang_cut.damaged(t, seeded('damaged free chains'))),
+        ('random trees with free chains', lambda: hang_cut.random_trees(t, seeded('free chains'))),
     ]:
         t.name(name)
         part()
@@ -596,9 +629,9 @@ def main():
         f.write(b''.join(t.cases))
     with open(os.path.join(crate, 'stdout'), 'w', encoding='ascii', newline='\n') as f:
         f.write('\n'.join(t.lines) + '\n')
-    for name in ('draw', 'check', 'wide', 'stroke'):
-        asked = [line.split() for line in t.lines if line.startswith(name + ' ')]
-        asked = [words[2] if words[1] == 'refused' else '0' if name == 'wide' else words[1] for words in asked]
+    for name in ('draw', 'check', 'wide', 'stroke', 'hang', 'cut'):
+        asked = [line.split() for line in t.lines if re.match(name + r' (refused )?(\d|done|lift|draw)', line)]
+        asked = [words[2] if words[1] == 'refused' else '0' if name in ('wide', 'hang') else words[1] for words in asked]
         print(name, len(asked), *('%s:%d' % (a, asked.count(a)) for a in sorted(set(asked), key=lambda a: (len(a), a))))
     print('width', sum(line.startswith('width ') for line in t.lines))
 

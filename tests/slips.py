@@ -2,8 +2,9 @@
 """Counts, for each slip, the cases of crates/trials that tell it. A slip that no case tells ends the run with an error.
 
 A slip is a change of a line or two of the reference program, made in memory; the file itself stays as it is.
-Only cases of the call that the slip is of are counted; a slip of the table has to be told by every call.
-make_trials.py seeks cases that tell each slip of a drawing, a check (of level lines with sheets of such lines) or a stroke, and stores what the unchanged program says of them.
+Only cases of the call that the slip is of are counted; a slip of the table, its free chain too, has to be told by every call, and one of the placements by every
+call that is lent some. make_trials.py seeks cases that tell each slip of a drawing, a check (of level lines with sheets of such lines), a stroke, a hang or a cut,
+and stores what the unchanged program says of them.
 """
 import os
 import sys
@@ -14,8 +15,8 @@ crate = os.path.join(os.path.dirname(here), 'crates', 'trials')
 UPTO = int(open(os.path.join(here, 'upto')).read())     # requests 1 to UPTO of document 02 are in force
 
 # The calls of the reference program whose answers a kind of slip changes.
-CALLS = {'draw': ['draw'], 'check': ['check'], 'level': ['check'], 'wide': ['draw_wide'], 'stroke': ['stroke'],
-         'table': ['draw', 'check', 'draw_wide', 'stroke']}
+CALLS = {'draw': ['draw'], 'check': ['check'], 'level': ['check'], 'wide': ['draw_wide'], 'stroke': ['stroke'], 'hang': ['hang'], 'cut': ['cut'],
+         'table': ['draw', 'check', 'draw_wide', 'stroke', 'hang', 'cut'], 'placements': ['draw', 'check', 'draw_wide', 'stroke']}
 
 TIE = 'size[L[v]] >= size[R[v]]'
 TIE_BY = 'size[L[v]] > size[R[v]] or size[L[v]] == size[R[v]] and '
@@ -44,6 +45,40 @@ POINTS = 'at = points(t, placements)\n    strokes = []'
 PAST = 'if number >= len(strokes):'
 NTH = 'kind, b = strokes[number]'
 PEN = '(Fraction(at[b][0] * pitch, 4), Fraction(at[b][1] * pitch, 4))'
+SIDE = 'if side > 1:                            # "with'
+OFF = 'if parent not in t.chain:'
+TAKEN = 'if (t.left[parent] if side == 0 else t.right[parent]) != 0:'
+TAKEN_ANY = TAKEN.replace('[parent]', '.get(parent, 0)')             # also of a parent off the chain
+EMPTY = 'if t.chain:                         # "only'
+NONE_FREE = 'if not t.free:'
+READ_HANG = 'return (t.refusal, 0, data)'
+LEAF = 'f = t.free[0]'
+UNFREED = 'new = with_word(data, 0, RIGHT, word(data, f, NEXT))'
+FOLLOWED = 'new = with_word(new, f, NEXT, word(data, parent, NEXT))'
+FOLLOWS = 'new = with_word(new, parent, NEXT, f)'
+TAGGED = 'new = with_word(new, f, TAG, tag)'
+ROOTED = 'new = with_word(new, 0, LEFT, f)'
+LINKED = 'new = with_word(new, parent, LEFT if side == 0 else RIGHT, f)'
+NO_NODE = 'if node not in t.chain:                                     # 0 too'
+READ_CUT = 'return (t.refusal, data)\n    ' + NO_NODE
+CHILD = 'if t.left[node] != 0 or t.right[node] != 0:'
+BEFORE = 'before = t.chain[i - 1] if i > 0 else 0'
+UNCHAINED = 'new = with_word(data, before, NEXT, word(data, node, NEXT))'
+CUT_LEFT, CUT_RIGHT, CUT_ROOT = 'new = with_word(new, b, LEFT, 0)', 'new = with_word(new, b, RIGHT, 0)', 'new = with_word(new, 0, LEFT, 0)'
+FREED = 'new = with_word(new, node, NEXT, word(data, 0, RIGHT))'
+ZEROED = 'for k in (LEFT, RIGHT, TAG):'
+FIRST_FREE = 'new = with_word(new, 0, RIGHT, node)'
+HEAD_RIGHT = 'if upto < 5 and word(data, 0, RIGHT) != 0:'
+HEAD_TAG = 'if word(data, 0, TAG) != 0:\n        return refuse(2)'
+THREE = 'if r >= records or r in on_chain:\n            return refuse(3)'
+FREE_CHAIN = 'if upto >= 5:\n        met'
+MET = 'if r >= records or r in met or r in on_chain:\n                return refuse(8)'
+WORDS = 'if word(data, r, LEFT) != 0 or word(data, r, RIGHT) != 0 or word(data, r, TAG) != 0:\n                return refuse(8)'
+LATER = 'late.append(8)\n                break'                              # 8 is found, and told later
+LATE = [MET, MET.replace('return refuse(8)', LATER), WORDS, WORDS.replace('return refuse(8)', LATER), FREE_CHAIN, 'late = []\n    ' + FREE_CHAIN]
+FOUR = 'if child != 0 and child not in on_chain:'
+AFTER_FOUR = 'root = word(data, 0, LEFT)\n'
+NO_TREE, A_TREE = 'return Table(records=records, free=free)', 'return Table(0, records, chain, free, root, roots, left, right, tag)'
 SLIPS = [
     ('draw', 'a child pending at the end is forgotten, left hand', 'put_by_left_edge(pending_left, 1, lowest_row() + 1)', 'pass'),
     ('draw', 'a child pending at the end is forgotten, right hand',
@@ -136,10 +171,101 @@ SLIPS = [
     ('stroke', 'the number cut to 16 bits', FIRST, FIRST + '    number %= 2 ** 16\n'),
     ('stroke', 'the number cut to 32 bits', FIRST, FIRST + '    number %= 2 ** 32\n'),
     ('stroke', 'the number with a sign', FIRST, FIRST + '    number -= number // 2 ** 63 * 2 ** 64\n', NTH, NTH.replace('[number]', '[max(number, 0)]')),
+    ('hang', 'the record stays free', UNFREED, 'new = data'),
+    ('hang', 'the free records behind it are lost', UNFREED, 'new = with_word(data, 0, RIGHT, 0)'),
+    ('hang', 'the last free record is taken', LEAF, 'f = t.free[-1]'),
+    ('hang', 'the free record of the least number is taken', LEAF, 'f = min(t.free)'),
+    ('hang', 'a record on neither chain is taken', LEAF, 'f = min(set(range(1, t.records)) - set(t.chain))'),
+    ('hang', 'where none is free, a record on neither chain is taken', LEAF, 'f = min(t.free[:1] or set(range(1, t.records)) - set(t.chain))',
+     NONE_FREE, 'if t.records == 1 + len(t.chain):'),
+    ('hang', 'chained at the end', FOLLOWED, 'new = with_word(new, f, NEXT, 0)', FOLLOWS, 'new = with_word(new, t.chain[-1] if t.chain else 0, NEXT, f)'),
+    ('hang', 'chained at the front', FOLLOWED, 'new = with_word(new, f, NEXT, word(data, 0, NEXT))', FOLLOWS, 'new = with_word(new, 0, NEXT, f)'),
+    ('hang', 'chained before its parent', FOLLOWED, 'new = with_word(new, f, NEXT, parent)',
+     FOLLOWS, 'new = with_word(new, ([0] + t.chain)[t.chain.index(parent)] if parent else 0, NEXT, f)'),
+    ('hang', 'chained behind the left child, if there is one', FOLLOWED, 'p = t.left.get(parent, 0) or parent; new = with_word(new, f, NEXT, word(data, p, NEXT))',
+     FOLLOWS, 'new = with_word(new, p, NEXT, f)'),
+    ('hang', 'not chained', FOLLOWS, 'pass'),
+    ('hang', 'the chain behind the parent is lost', FOLLOWED, 'new = with_word(new, f, NEXT, 0)'),
+    ('hang', 'the chain goes on along the free records', FOLLOWED, 'pass'),
+    ('hang', 'the tag is not written', TAGGED, 'pass'),
+    ('hang', 'the tag cut to 8 bits', TAGGED, TAGGED.replace('tag)', 'tag % 256)')),
+    ('hang', 'always on the left', LINKED, LINKED.replace('LEFT if side == 0 else RIGHT', 'LEFT')),
+    ('hang', 'left and right traded', LINKED, LINKED.replace('side == 0', 'side == 1')),
+    ('hang', 'no link to it', LINKED, 'pass'),
+    ('hang', 'no link to the root', ROOTED, 'pass'),
+    ('hang', "the root on the right side is written to the head's right", ROOTED, ROOTED.replace('LEFT', 'LEFT if side == 0 else RIGHT')),
+    ('hang', 'a side above 1 is taken', SIDE, SIDE.replace('side > 1', 'False')),
+    ('hang', 'a side above 1 is taken for the root', SIDE, SIDE.replace('side > 1', 'side > 1 and parent != 0')),
+    ('hang', 'the side cut to a bit', SIDE, 'side %= 2\n    ' + SIDE, LINKED, LINKED.replace('side', 'side % 2')),
+    ('hang', 'a second root', EMPTY, EMPTY.replace('t.chain', 'False')),
+    ('hang', 'a side that is taken is written over', TAKEN, 'if False:'),
+    ('hang', 'the other side is asked for', TAKEN, TAKEN.replace('side == 0', 'side == 1')),
+    ('hang', 'one child is enough', TAKEN, 'if t.left[parent] != 0 or t.right[parent] != 0:'),
+    ('hang', 'a parent that is free', OFF, 'if parent not in t.chain + t.free:', TAKEN, TAKEN_ANY),
+    ('hang', 'a parent on neither chain', OFF, 'if parent >= t.records or parent in t.free:', TAKEN, TAKEN_ANY),
+    ('hang', 'with no record free it answers 0 and keeps the table', READ_HANG, READ_HANG + '\n    if _place_refusal(t, parent, side) == 10:\n        return (0, 0, data)'),
+    ('hang', '10 before 9', SIDE, 'if not t.free:\n        return 10\n    ' + SIDE),
+    ('hang', '10 before a side above 1', SIDE, 'if not t.free and side > 1:\n        return 10\n    ' + SIDE),
+    ('hang', '10 before a side that is taken', TAKEN, 'if not t.free:\n            return 10\n        ' + TAKEN),
+    ('hang', '10 before a tree that is not empty', EMPTY, 'if t.chain and not t.free:\n            return 10\n        ' + EMPTY),
+    ('hang', '9 for the side before all others', READ_HANG, READ_HANG.replace('t.refusal', '9 if side > 1 else t.refusal')),
+    ('hang', '9 for the root before 5', READ_HANG, READ_HANG.replace('t.refusal', '9 if parent == 0 and t.refusal == 5 else t.refusal')),
+    ('hang', '9 for the root before 8', READ_HANG, READ_HANG.replace('t.refusal', '9 if parent == 0 and t.refusal == 8 else t.refusal')),
+    ('hang', '10 before 5', READ_HANG, READ_HANG.replace('t.refusal', '10 if t.refusal == 5 and word(data, 0, RIGHT) == 0 else t.refusal')),
+    ('cut', "the parent's left is left as it is", CUT_LEFT, 'pass'),
+    ('cut', "the parent's right is left as it is", CUT_RIGHT, 'pass'),
+    ('cut', "the head's link is left as it is", CUT_ROOT, 'pass'),
+    ('cut', 'the right sibling is cut off too', CUT_LEFT, 'new = with_word(with_word(new, b, LEFT, 0), b, 2, 0)'),
+    ('cut', 'a node with a child is cut', CHILD, 'if False:'),
+    ('cut', 'a node with a left child is cut', CHILD, 'if t.right[node] != 0:'),
+    ('cut', 'a node with a right child is cut', CHILD, 'if t.left[node] != 0:'),
+    ('cut', 'a node with one child is cut', CHILD, 'if t.left[node] != 0 and t.right[node] != 0:'),
+    ('cut', 'a node with one child is cut, and the child takes its place', CHILD, 'if t.left[node] != 0 and t.right[node] != 0:',
+     CUT_LEFT, CUT_LEFT.replace('0)', 't.left[node] or t.right[node])'), CUT_RIGHT, CUT_RIGHT.replace('0)', 't.left[node] or t.right[node])')),
+    ('cut', 'the only node is not cut', CHILD, 'if t.left[node] != 0 or t.right[node] != 0 or len(t.chain) == 1:'),
+    ('cut', 'the tag is left', ZEROED, 'for k in (LEFT, RIGHT):'),
+    ('cut', 'its next is left', FREED, 'pass'),
+    ('cut', 'the free records behind it are lost', FREED, 'new = with_word(new, node, NEXT, 0)'),
+    ('cut', 'last among the free', FREED, 'new = with_word(new, node, NEXT, 0)',
+     FIRST_FREE, 'new = with_word(new, *((t.free[-1], NEXT) if t.free else (0, RIGHT)), node)'),
+    ('cut', 'second among the free', FREED, 'new = with_word(new, node, NEXT, word(data, t.free[0], NEXT) if t.free else 0)',
+     FIRST_FREE, 'new = with_word(new, *((t.free[0], NEXT) if t.free else (0, RIGHT)), node)'),
+    ('cut', 'not among the free', FIRST_FREE, 'pass'),
+    ('cut', 'the chain is left as it is', UNCHAINED, 'new = data'),
+    ('cut', 'the chain behind it is lost', UNCHAINED, 'new = with_word(data, before, NEXT, 0)'),
+    ('cut', 'its parent is taken for the one before it', BEFORE, 'before = ([b for b in t.chain if node in (t.left[b], t.right[b])] or [0])[0]'),
+    ('cut', "the head's next is left as it is", BEFORE, 'before = t.chain[max(i - 1, 0)]'),
+    ('cut', 'a node off the chain is cut off nothing', NO_NODE, NO_NODE.replace('if', 'if node < t.records and node not in t.chain:\n        return (0, data)\n    if')),
+    ('cut', 'the head is cut off nothing', NO_NODE, NO_NODE.replace('if', 'if node == 0:\n        return (0, data)\n    if')),
+    ('cut', '9 before all others', READ_CUT, READ_CUT.replace('t.refusal', '9 if node == 0 else t.refusal')),
+    ('cut', '9 before 8', READ_CUT, READ_CUT.replace('t.refusal', '9 if node == 0 and t.refusal == 8 else t.refusal')),
+    ('cut', '9 before 5', READ_CUT, READ_CUT.replace('t.refusal', '9 if node == 0 and t.refusal == 5 else t.refusal')),
+    ('table', "the head's right is still 2", HEAD_RIGHT, 'if word(data, 0, RIGHT) != 0:'),
+    ('table', 'the free chain is not looked at', FREE_CHAIN, FREE_CHAIN.replace('upto >= 5', 'False')),
+    ('table', 'the free chain is not looked at in an empty tree', FREE_CHAIN, FREE_CHAIN.replace('upto >= 5', 'chain')),
+    ('table', 'beyond the table the free chain ends', MET, 'if r >= records:\n                break\n            ' + MET),
+    ('table', 'the last record counts as beyond', MET, MET.replace('r >= records', 'r + 1 >= records')),
+    ('table', 'at a free record that is met twice the free chain ends', MET, 'if r in met:\n                break\n            ' + MET),
+    ('table', 'the free chain may meet the main chain', MET, MET.replace(' or r in on_chain', '')),
+    ('table', "the free chain is held against the chain's first node alone", MET, MET.replace('r in on_chain', 'r in chain[:1]')),
+    ('table', 'the left of a free record is not looked at', WORDS, WORDS.replace('word(data, r, LEFT) != 0 or ', '')),
+    ('table', 'the right of a free record is not looked at', WORDS, WORDS.replace('word(data, r, RIGHT) != 0 or ', '')),
+    ('table', 'the tag of a free record is not looked at', WORDS, WORDS.replace(' or word(data, r, TAG) != 0', '')),
+    ('table', 'the words of the first free record alone are looked at', WORDS, WORDS.replace('if ', 'if not met and (').replace(':', '):')),
+    ('table', 'the words of the last free record are not looked at', WORDS, WORDS.replace('if ', 'if word(data, r, NEXT) != 0 and (').replace(':', '):')),
+    ('table', 'the low bytes alone of the words of a free record', WORDS, WORDS.replace(') != 0', ') % 256 != 0')),
+    ('table', '3 before 2', HEAD_TAG, HEAD_TAG.replace('refuse(2)', 'refuse(3 if word(data, 0, NEXT) >= records else 2)')),
+    ('table', '5 before 2', HEAD_TAG, HEAD_TAG.replace('refuse(2)', 'refuse(5 if word(data, 0, NEXT) != 0 and word(data, 0, LEFT) == 0 else 2)')),
+    ('table', '8 before 2', HEAD_TAG, HEAD_TAG.replace('refuse(2)', 'refuse(8 if word(data, 0, RIGHT) >= records else 2)')),
+    ('table', '8 before 3', THREE, THREE.replace('refuse(3)', 'refuse(8 if word(data, 0, RIGHT) >= records else 3)')),
+    ('table', '8 after 4', *LATE, AFTER_FOUR, AFTER_FOUR + '    if late:\n        return refuse(8)\n'),
+    ('table', '8 after 5', *LATE, NO_TREE, NO_TREE.replace('return', 'return refuse(8) if late else'),
+     A_TREE, A_TREE.replace('return', 'return refuse(8) if late else')),
+    ('table', 'a child may be free', FOUR, FOUR.replace('not in on_chain', 'not in on_chain and child not in free')),
     ('table', 'a table of 4,098 records is taken', 'MAX_BYTES = 32776 ', 'MAX_BYTES = 32784 '),
     ('table', 'a node need not be named', 'named[b] != 1', 'named[b] > 1', REACH, 'if False:'),
     ('table', 'a node need not be reached', REACH, 'if False:'),
-    ('table', 'placements may be one short', 'len(placements) < 2', 'len(placements) + 1 < 2'),
+    ('placements', 'placements may be one short', 'len(placements) < 2', 'len(placements) + 1 < 2'),
 ]
 
 
@@ -165,10 +291,10 @@ def reference(changes):
     return module
 
 
-def answer(program, ask, table, places, *more):
+def answer(program, ask, *case):
     """What a program says; one that breaks off says so."""
     try:
-        return getattr(program, ask)(table, places, *more, UPTO)
+        return getattr(program, ask)(*case, UPTO)
     except Exception as e:
         return repr(e)
 
@@ -178,7 +304,7 @@ def words(data):
 
 
 def cases():
-    """Every call on a table in the stored stream: which, the table, the placements before it, of a stroke pitch and number."""
+    """Every call on a table in the stored stream: which, and what it is lent and given, as it stands before the call."""
     data = open(os.path.join(crate, 'stdin'), 'rb').read()
     right = reference([])
     at, table, places = 0, b'', []
@@ -206,6 +332,12 @@ def cases():
             places = right.draw_wide(table, places, UPTO)[4]
         elif kind == 9:
             yield 'stroke', table, list(places), count, int.from_bytes(more, 'little')
+        elif kind == 11:
+            yield 'hang', table, count, first, step
+            table = right.hang(table, count, first, step, UPTO)[2]
+        elif kind == 12:
+            yield 'cut', table, count
+            table = right.cut(table, count, UPTO)[1]
 
 
 def main():

@@ -92,6 +92,14 @@ def hanging(n, rng):
     return tree
 
 
+def every_links(n, first=1):
+    """The links of every tree of n nodes, which are numbered from first on, parent before left subtree before right subtree."""
+    if n == 0:
+        return [[]]
+    return [[(first + 1 if a else 0, first + 1 + a if a + 1 < n else 0)] + x + y
+            for a in range(n) for x in every_links(a, first + 1) for y in every_links(n - 1 - a, first + 1 + a)]
+
+
 def shapes(rng):
     """Name and maker, from a number of nodes, of each shape."""
     def hung(low, high):
@@ -135,9 +143,9 @@ def shapes(rng):
     ]
 
 
-def table(tree, rng, extra=0, shuffled=True):
-    """The bytes of a tree's table and the record of each node. Unchained records hold rubbish."""
-    records = tree.n + 1 + extra
+def table(tree, rng, extra=0, shuffled=True, free=0):
+    """The bytes of a tree's table and the record of each node. Extra records, on neither chain, hold rubbish; so many others are free."""
+    records = tree.n + 1 + extra + free
     names = list(range(1, records))
     if shuffled:
         rng.shuffle(names)
@@ -151,7 +159,20 @@ def table(tree, rng, extra=0, shuffled=True):
     for v in range(1, tree.n + 1):
         k = record[v]
         words[k] = [after[k], record[tree.left[v]], record[tree.right[v]], words[k][3]]
+    free_ones = names[tree.n + extra:]
+    words[0][2] = free_ones[0] if free else 0
+    for k, following in zip(free_ones, free_ones[1:] + [0]):
+        words[k] = [following, 0, 0, 0]
     return packed(words), record
+
+
+def plain(links, root=1, tag=100, head=None):
+    """A table of the given (left, right), chained in order from 1."""
+    n = len(links)
+    words = [head or [1 if n else 0, root, 0, 0]]
+    for k, (a, b) in enumerate(links, 1):
+        words.append([k + 1 if k < n else 0, a, b, tag + k])
+    return words
 
 
 def packed(words):

@@ -1,5 +1,8 @@
 // The library for other languages (include/bt.h). Each function has the contract of the proved one that it calls.
 use drawing::Drawn;
+use hanging::Hung;
+use hanging::cut;
+use hanging::hang;
 use pen::points::PenPoint;
 use pen::stroke;
 use pen::strokes::Stroke;
@@ -9,6 +12,8 @@ use wide::draw_wide;
 ghost use mathlib.Core.Path.{_≡_};
 ghost use mathlib.Core.List.{[], _∷_};
 ghost use Rattle.drawing.specs.Answer.{drawnOf, placedIn};
+ghost use Rattle.hanging.specs.Hanging.{hangSays, afterHang};
+ghost use Rattle.hanging.specs.Cutting.{cutRefusal, afterCut};
 ghost use Rattle.pen.specs.Strokes.{told, strokeOf};
 ghost use Rattle.verdict.specs.Verdict.{Verdict};
 ghost use Rattle.width.specs.Allowed.{allowedWidth};
@@ -101,4 +106,24 @@ pub extern "C" fn bt_stroke(
     ensures { λ _. ⌜ now (point .exit) ≡ overwritten (strokeOf (now (table .entry)) (now (placements .entry)) pitch number .point) (now (point .entry)) ⌝ }
 {
     put_stroke(stroke(table, placements, pitch, number), point)
+}
+
+// The refusal in bits 0 to 15, the record in bits 16 to 31.
+#[no_mangle]
+pub extern "C" fn bt_hang(table: &mut [u8], parent: u16, side: u8, tag: u16) -> u32
+    ensures { λ r. ⌜ r ≡ packedSaid (hangSays (now (table .entry)) parent side) ⌝ }
+    ensures { λ _. ⌜ now (table .exit) ≡ afterHang (now (table .entry)) parent side tag ⌝ }
+{
+    match hang(table, parent, side, tag) {
+        Hung::Leaf(leaf) => 0x1_0000 * (leaf as u32),
+        Hung::Refused(number) => number as u32,
+    }
+}
+
+#[no_mangle]
+pub extern "C" fn bt_cut(table: &mut [u8], node: u16) -> u32
+    ensures { λ r. ⌜ r ≡ cutRefusal (now (table .entry)) node ⌝ }
+    ensures { λ _. ⌜ now (table .exit) ≡ afterCut (now (table .entry)) node ⌝ }
+{
+    cut(table, node) as u32
 }

@@ -1,4 +1,4 @@
--- "The left, right and tag of a record off the chain change no answer", of the drawer: `off-chain-drawn`. Rests on that law of tables and on Answered.
+-- Of records on neither chain "left, right and tag change no answer": of the drawer, `off-chain-drawn`. Rests on that law of tables and on Answered.
 use mathlib.Core.Path.{_≡_, sym, _∙_}
 use mathlib.Core.List.{List}
 use Prim.Native.Nat.{ℕ}

@@ -2,18 +2,18 @@
 -- its tree is the mirror image. Rests on Each and on the laws of tables (`table`): a word written, the causes of refusal, what an accepted table is like.
 use mathlib.Core.Path.{_≡_, refl, ap, ap₂, _∙_}
 use mathlib.Core.Logic.{_⊎_, inl, inr}
-use mathlib.Core.Bool.{Bool, true, false, cond, or-comm}
+use mathlib.Core.Bool.{Bool, true, false, cond, _||_, or-comm}
 use mathlib.Core.List.{List, [], _∷_}
 use Prim.Native.Nat.{ℕ, zero, suc, _<_}
 use native.Mathlib.Omega.{arith}
 use lib.Dec.{T}
 use lib.ListN.{length}
 use Rattle.table.specs.Lists.{member, count}
-use Rattle.table.specs.Table.{Side, left, right, records, word, linkOf, nextOf, leftOf, rightOf, tagOf, rootOf, chain, Chained}
+use Rattle.table.specs.Table.{Side, left, right, records, word, linkOf, nextOf, leftOf, rightOf, tagOf, rootOf, chain, Chained, firstFree, free}
 use Rattle.table.specs.Tree.{node, descend, treeAt, tree}
-use Rattle.table.specs.Refusal.{badLength, badHead, beyond, badChain, stray, badLinks, isEmpty, links, badTree, shortPlacements, fault, refusal}
+use Rattle.table.specs.Refusal.{badLength, badHead, beyond, broken, badChain, occupied, badFree, stray, badLinks, isEmpty, links, badTree, shortPlacements, fault, refusal}
 use Rattle.table.specs.Writing.{withWord}
-use Rattle.table.proofs.Lists.{T-true, member-cons, any-same}
+use Rattle.table.proofs.Lists.{T-true, T-false, member-cons, any-same}
 use Rattle.table.proofs.Chain.{follow-same}
 use Rattle.table.proofs.Causes.{cond-same, chain-positive, sound-distinct, sound-within, sound-links}
 use Rattle.table.proofs.Accepted.{fault-none, parented}
@@ -99,10 +99,35 @@ module _ (t : List ℕ) where
   root-same : rootOf (exchanged t) ≡ rootOf t
   root-same = exchanged-head 1 (omega arith)
 
-  -- The causes 3 to 5, each without those before.
+  pub exchanged-free : free (exchanged t) ≡ free t
+  unfolding free
+  exchanged-free = rw (exchanged-length, exchanged-head 2 (omega arith)) (follow-same t (exchanged t) (records t) (firstFree t) (λ k m. exchanged-next k))
+
+  -- Off the chain all words are kept.
+  exchanged-other : (k j : ℕ) → (Chained t k → ⊥) → j < 4 → word (exchanged t) k j ≡ word t k j
+  unfolding exchanged
+  exchanged-other k j off h =
+      each-kept exchangeLinks (λ u. word u k j) (chain t) t (λ n m u. step-kept n u k j h (λ e. off (rw (e .0) m)) (λ e. off (rw (e .0) m)))
+
+  -- The causes 3, 8, 4 and 5, each of the last two without those before.
+  broken-same : (ks : List ℕ) → broken (exchanged t) ks ≡ broken t ks
+  unfolding broken beyond
+  broken-same ks = rw (any-same (beyond (exchanged t)) (beyond t) ks (λ k m. rw exchanged-length))
+
   chain-bad : badChain (exchanged t) ≡ badChain t
-  unfolding badChain beyond
-  chain-bad = rw (exchanged-chain, any-same (beyond (exchanged t)) (beyond t) (chain t) (λ k m. rw exchanged-length))
+  chain-bad = rw exchanged-chain (broken-same (chain t))
+
+  free-bad : badFree (exchanged t) ≡ badFree t
+  unfolding badFree occupied
+  free-bad =
+      rw (exchanged-free, exchanged-chain, broken-same (free t))
+      (ap (λ (b : Bool). broken t (free t) || b) (any-same _ _ (free t) (λ k m. go k (member k (chain t)) refl)))
+    where
+      go : (k : ℕ) (b : Bool) → member k (chain t) ≡ b → b || occupied (exchanged t) k ≡ b || occupied t k
+      go k true e = refl
+      go k false e =
+          let off = T-false (member k (chain t)) .1 e in
+          rw (exchanged-other k 1 off (omega arith), exchanged-other k 2 off (omega arith), exchanged-other k 3 off (omega arith))
 
   links-bad : badChain t ≡ false → badLinks (exchanged t) ≡ badLinks t
   unfolding badLinks stray beyond opposite
@@ -128,11 +153,12 @@ module _ (t : List ℕ) where
   exchanged-fault =
       rw (
         exchanged-length,
-        exchanged-head 2 (omega arith),
         exchanged-head 3 (omega arith),
         chain-bad,
+        free-bad,
         cond-same (badChain t) 3
-            (λ ok. ap (λ b. cond b 4 (cond (badTree (exchanged t)) 5 0)) (links-bad ok) ∙ cond-same (badLinks t) 4 (λ e. ap (λ b. cond b 5 0) (tree-bad ok e))),
+            (λ ok. cond-same (badFree t) 8
+            (λ f. ap (λ b. cond b 4 (cond (badTree (exchanged t)) 5 0)) (links-bad ok) ∙ cond-same (badLinks t) 4 (λ e. ap (λ b. cond b 5 0) (tree-bad ok e)))),
       )
 
   pub exchanged-refusal : (places : ℕ) → refusal (exchanged t) places ≡ refusal t places
@@ -140,7 +166,7 @@ module _ (t : List ℕ) where
   exchanged-refusal places = rw (exchanged-fault, exchanged-length)
 
   pub exchanged-tree-at : fault t ≡ 0 → (k : ℕ) → (k ≡ 0) ⊎ Chained t k → treeAt (exchanged t) k ≡ mirror (treeAt t k)
-  exchanged-tree-at ok = at-mirror (fault-none t ok .2) (fault-none t ok .3)
+  exchanged-tree-at ok = at-mirror (fault-none t ok .sound) (fault-none t ok .linked)
 
   pub exchanged-tree : fault t ≡ 0 → tree (exchanged t) ≡ mirror (tree t)
   exchanged-tree ok = rw root-same (exchanged-tree-at ok (rootOf t) (parented t ok .root))

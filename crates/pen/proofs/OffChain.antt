@@ -1,4 +1,4 @@
--- "The left, right and tag of a record off the chain change no answer", of a stroke: `off-chain-stroke`. Rests on that law of tables.
+-- Of records on neither chain "left, right and tag change no answer": of a stroke, `off-chain-stroke`. Rests on that law of tables.
 use mathlib.Core.Path.{_≡_, refl}
 use mathlib.Core.Logic.{inl, inr}
 use mathlib.Core.List.{List, [], _∷_}

@@ -6,9 +6,9 @@ use Prim.Native.Nat.{ℕ}
 use lib.Dec.{T, eqb, eqb→eq}
 use mir.Facts.{and-yes}
 use Rattle.table.specs.Lists.{any, member, repeats, count}
-use Rattle.table.specs.Table.{word, follow, chain}
+use Rattle.table.specs.Table.{word, follow, chain, free}
 use Rattle.table.specs.Tree.{size, nodes, descend}
-use Rattle.table.specs.Refusal.{badLength, badHead, beyond, badChain, stray, badLinks, isEmpty, links, badTree, shortPlacements, fault, refusal}
+use Rattle.table.specs.Refusal.{badLength, badHead, beyond, broken, occupied, badFree, stray, badLinks, isEmpty, links, badTree, shortPlacements, fault, refusal}
 use Rattle.layout.specs.Layout.{width, height, shift, flip, mirror}
 use Rattle.layout.specs.Spine.{spine, opposite, seen, runRole, roleAfter, handAfter, rolesAfter, roles}
 use Rattle.layout.specs.Drawing.{hang, widest, join, place, steps, drawing, draw}
@@ -76,5 +76,5 @@ every [] ok = tt
 every (c ∷ cs) ok = let z = and-yes (test c) (tests cs) ok in (right c (z .0), every cs (z .1))
 
 pub starred : All Right cases
-unfolding any member repeats count word follow chain size nodes descend badLength badHead beyond badChain stray badLinks isEmpty links badTree shortPlacements fault refusal width height shift flip mirror spine opposite seen runRole roleAfter handAfter rolesAfter roles hang widest join place steps drawing draw store planOf drawnOf placedIn cross overlap spans astride meets samePlace along clashes present someLine samePoint childAbove linesClash inOrder outOfOrder verdictOf greatest floorLog2 allowedWidth same listed test tests
+unfolding any member repeats count word follow chain free size nodes descend badLength badHead beyond broken occupied badFree stray badLinks isEmpty links badTree shortPlacements fault refusal width height shift flip mirror spine opposite seen runRole roleAfter handAfter rolesAfter roles hang widest join place steps drawing draw store planOf drawnOf placedIn cross overlap spans astride meets samePlace along clashes present someLine samePoint childAbove linesClash inOrder outOfOrder verdictOf greatest floorLog2 allowedWidth same listed test tests
 starred = every cases tt

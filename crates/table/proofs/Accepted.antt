@@ -10,14 +10,15 @@ use lib.ListN.{length}
 use mir.Facts.{and-yes}
 use borrow.Author.Tests.{ltb-false, le-ltb}
 use Rattle.table.specs.Lists.{any, member, count}
-use Rattle.table.specs.Table.{Side, left, right, records, nextOf, leftOf, rightOf, linkOf, rootOf, follow, chain, Chained}
+use Rattle.table.specs.Table.{Side, left, right, records, nextOf, leftOf, rightOf, tagOf, linkOf, rootOf, follow, chain, Chained, firstFree, free, Free}
 use Rattle.table.specs.Tree.{none, node, size, nodes, descend, treeAt, tree}
-use Rattle.table.specs.Refusal.{badLength, badHead, badChain, badLinks, isEmpty, links, named, badTree, shortPlacements, fault, refusal}
+use Rattle.table.specs.Refusal.{badLength, badHead, badChain, badFree, badLinks, isEmpty, links, named, badTree, shortPlacements, fault, refusal}
 use Rattle.table.proofs.Lists.{passes, or-false, any-false, member-count, Distinct, repeats-count, within, length-within}
-use Rattle.table.proofs.Chain.{follow-none, descend-none, follow-more, descend-more, length-nodes, size-link, reached, namer, names, names-once}
-use Rattle.table.proofs.Causes.{length-bounds, sound-distinct, sound-within, sound-length, sound-links, sound-once, Parented, named-within, nodes-within, size-within}
+use Rattle.table.proofs.Chain.{follow-none, descend-none, follow-first, follow-more, descend-more, length-nodes, size-link, reached, namer, names, names-once}
+use Rattle.table.proofs.Causes.{length-bounds, unbroken, trail-within, trail-length, sound-distinct, sound-within, sound-length, free-unbroken, free-vacant, sound-links, sound-once, Parented, named-within, nodes-within, size-within}
 
-no-cause : (b : Bool) (n m : ℕ) → cond b (suc n) m ≡ 0 → (b ≡ false) × (m ≡ 0)
+-- A cause that does not hold, and those after it.
+pub no-cause : (b : Bool) (n m : ℕ) → cond b (suc n) m ≡ 0 → (b ≡ false) × (m ≡ 0)
 no-cause true n m e = absurd (omega arith)
 no-cause false n m e = (refl, e)
 
@@ -53,41 +54,86 @@ refusal-none t places = (
 abbrev pub Empty : List ℕ → Type 0
 Empty t = (chain t ≡ []) × (rootOf t ≡ 0)
 
+pub is-empty : (t : List ℕ) → T (isEmpty t) → Empty t
+unfolding isEmpty chain
+is-empty t h =
+    let e = and-yes (eqb (nextOf t 0) 0) (eqb (rootOf t) 0) h in
+    (rw (eqb→eq (nextOf t 0) 0 (e .0)) (follow-none (records t) t), eqb→eq (rootOf t) 0 (e .1))
+
+pub empty-none : (t : List ℕ) → Empty t → (k : ℕ) → Chained t k → ⊥
+empty-none t e k h = unfold member in rw (e .0) at h
+
 -- Below a link that is zero there is no tree.
 pub tree-none : (t : List ℕ) → treeAt t 0 ≡ none
 tree-none t = descend-none (records t) t
 
+-- None of the causes 1 to 5 and 8 holds.
+pub record Faultless (t : List ℕ) : Type 0 where
+  pub whole : badLength t ≡ false
+  pub tagless : badHead t ≡ false
+  pub sound : badChain t ≡ false
+  pub vacant : badFree t ≡ false
+  pub linked : badLinks t ≡ false
+  pub rooted : badTree t ≡ false
+
+pub faultless : (t : List ℕ) → Faultless t → fault t ≡ 0
+unfolding fault
+faultless t g = rw (g .whole, g .tagless, g .sound, g .vacant, g .linked, g .rooted)
+
 module _ (t : List ℕ) (ok : fault t ≡ 0) where
-  -- None of the causes 1 to 5 holds.
-  pub fault-none : (badLength t ≡ false) × (badHead t ≡ false) × (badChain t ≡ false) × (badLinks t ≡ false) × (badTree t ≡ false)
+  pub fault-none : Faultless t
   unfolding fault
   fault-none =
       let a = no-cause (badLength t) 0 _ ok in
       let b = no-cause (badHead t) 1 _ (a .1) in
       let c = no-cause (badChain t) 2 _ (b .1) in
-      let d = no-cause (badLinks t) 3 _ (c .1) in
-      (a .0, b .0, c .0, d .0, no-cause (badTree t) 4 0 (d .1) .0)
+      let f = no-cause (badFree t) 7 _ (c .1) in
+      let d = no-cause (badLinks t) 3 _ (f .1) in
+      record { whole = a .0; tagless = b .0; sound = c .0; vacant = f .0; linked = d .0; rooted = no-cause (badTree t) 4 0 (d .1) .0 }
 
   -- The records, and the chain: within the table, no record twice, shorter than the table, ended by a zero.
   pub records-bounds : (1 ≤ records t) × (records t ≤ 4097) × (length t ≡ 8 * records t)
-  records-bounds = length-bounds t (fault-none .0)
+  records-bounds = length-bounds t (fault-none .whole)
 
   pub chain-within : (k : ℕ) → Chained t k → (1 ≤ k) × (k < records t)
-  chain-within = sound-within t (fault-none .2)
+  chain-within = sound-within t (fault-none .sound)
 
   pub chain-distinct : Distinct (chain t)
-  chain-distinct = sound-distinct t (fault-none .2)
+  chain-distinct = sound-distinct t (fault-none .sound)
 
   pub chain-length : length (chain t) < records t
-  chain-length = sound-length t (fault-none .0) (fault-none .2)
+  chain-length = sound-length t (fault-none .whole) (fault-none .sound)
 
   pub chain-ended : (n : ℕ) → follow (records t + n) t (nextOf t 0) ≡ chain t
   unfolding chain
   chain-ended n = follow-more (records t) n t (nextOf t 0) chain-length
 
+  -- The free records: the same; none is on the chain, and their left, right and tag are zero.
+  pub free-within : (k : ℕ) → Free t k → (1 ≤ k) × (k < records t)
+  unfolding free
+  free-within = trail-within t (firstFree t) (free-unbroken t (fault-none .vacant))
+
+  pub free-distinct : Distinct (free t)
+  free-distinct = unbroken t (free t) (free-unbroken t (fault-none .vacant)) .0
+
+  pub free-length : length (free t) < records t
+  unfolding free
+  free-length = trail-length t (firstFree t) (fault-none .whole) (free-unbroken t (fault-none .vacant))
+
+  pub first-free : 0 < firstFree t → Free t (firstFree t)
+  unfolding free
+  first-free = follow-first (records t) t (firstFree t) (records-bounds .0)
+
+  pub free-ended : (n : ℕ) → follow (records t + n) t (firstFree t) ≡ free t
+  unfolding free
+  free-ended n = follow-more (records t) n t (firstFree t) free-length
+
+  pub free-zero : (k : ℕ) → Free t k → (Chained t k → ⊥) × (leftOf t k ≡ 0) × (rightOf t k ≡ 0) × (tagOf t k ≡ 0)
+  free-zero = free-vacant t (fault-none .vacant)
+
   -- The links of chained records, and the root.
   pub links-chained : (k : ℕ) (s : Side) → Chained t k → (linkOf t s k ≡ 0) ⊎ Chained t (linkOf t s k)
-  links-chained = sound-links t (fault-none .3)
+  links-chained = sound-links t (fault-none .linked)
 
   pub link-within : (k : ℕ) (s : Side) → Chained t k → linkOf t s k < records t
   link-within k s m = ⊎-elim (λ (e : linkOf t s k ≡ 0). omega (arith, records-bounds)) (λ (c : Chained t (linkOf t s k)). chain-within (linkOf t s k) c .1) (links-chained k s m)
@@ -97,12 +143,7 @@ module _ (t : List ℕ) (ok : fault t ≡ 0) where
 
   one-tree : Empty t ⊎ OneTree
   unfolding badTree
-  one-tree = ⊎-map empty (λ (r : OneTree). r) (tests (isEmpty t) (not (member (rootOf t) (chain t))) (not (eqb (named t (rootOf t)) 0)) (any (uneven t) (chain t)) (any (lost t) (chain t)) (fault-none .4))
-    where
-      empty : T (isEmpty t) → Empty t
-      empty h =
-          let e = and-yes (eqb (nextOf t 0) 0) (eqb (rootOf t) 0) (unfold isEmpty in h) in
-          (unfold chain in rw (eqb→eq (nextOf t 0) 0 (e .0)) (follow-none (records t) t), eqb→eq (rootOf t) 0 (e .1))
+  one-tree = ⊎-map (is-empty t) (λ (r : OneTree). r) (tests (isEmpty t) (not (member (rootOf t) (chain t))) (not (eqb (named t (rootOf t)) 0)) (any (uneven t) (chain t)) (any (lost t) (chain t)) (fault-none .rooted))
 
   pub root : Empty t ⊎ Chained t (rootOf t)
   root = ⊎-map (λ (e : Empty t). e) (λ (r : OneTree). passes (member (rootOf t) (chain t)) (r .0)) one-tree
@@ -112,11 +153,11 @@ module _ (t : List ℕ) (ok : fault t ≡ 0) where
   some-root n e h = ⊎-elim (λ (z : Empty t). absurd (h (e ∙ ap length (z .0)))) (λ (c : Chained t (rootOf t)). c) root
 
   some : (k : ℕ) → Chained t k → OneTree
-  some k h = ⊎-elim (λ (e : Empty t). absurd (unfold member in rw (e .0) at h)) (λ (r : OneTree). r) one-tree
+  some k h = ⊎-elim (λ (e : Empty t). absurd (empty-none t e k h)) (λ (r : OneTree). r) one-tree
 
   pub parented : Parented t
   parented = record {
-    linked = fault-none .3;
+    linked = fault-none .linked;
     root = ⊎-map (λ (e : Empty t). e .1) (λ (m : Chained t (rootOf t)). m) root;
     unnamed = ⊎-elim (λ (e : Empty t). unfold links count in rw (e .0) refl) (λ (r : OneTree). eqb→eq (named t (rootOf t)) 0 (passes (eqb (named t (rootOf t)) 0) (r .1))) one-tree;
     once = λ k h. sound-once t (some k h .2) k h;

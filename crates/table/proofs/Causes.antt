@@ -5,15 +5,15 @@ use mathlib.Core.Bool.{Bool, true, false, not, cond, _&&_, _||_}
 use mathlib.Core.List.{List}
 use Prim.Native.Nat.{ℕ, zero, suc, _+_, _*_, _%_, _≤_, _<_}
 use native.Mathlib.Omega.{arith}
-use lib.Dec.{T, eqb, ltb, eqb→eq}
+use lib.Dec.{T, eqb, ltb, eqb→eq, eqb·suc-zero}
 use lib.ListN.{length}
-use borrow.Author.Tests.{ltb-false, leb-false, eqb-false}
+use borrow.Author.Tests.{ltb-false, leb-false, lt-leb, eqb-false}
 use Rattle.table.specs.Lists.{any, member, repeats, count}
-use Rattle.table.specs.Table.{Side, left, right, records, nextOf, leftOf, rightOf, linkOf, rootOf, chain, Chained}
+use Rattle.table.specs.Table.{Side, left, right, records, nextOf, leftOf, rightOf, tagOf, linkOf, rootOf, trail, chain, Chained, firstFree, free, Free}
 use Rattle.table.specs.Tree.{size, nodes, descend, tree}
-use Rattle.table.specs.Refusal.{badLength, beyond, badChain, stray, badLinks, links, named}
-use Rattle.table.proofs.Lists.{passes, or-false, any-false, same, Alike, alike, member-count, Distinct, Within, length-within, length-between, links-within}
-use Rattle.table.proofs.Chain.{follow-zero, nodes-zero, descend-more, length-nodes, nodes-deeper, namer}
+use Rattle.table.specs.Refusal.{badLength, beyond, broken, badChain, occupied, badFree, stray, badLinks, links, named}
+use Rattle.table.proofs.Lists.{T-false, passes, or-false, any-false, same, Alike, alike, member-count, Distinct, Within, length-within, length-between, links-within}
+use Rattle.table.proofs.Chain.{follow-none, follow-zero, nodes-zero, descend-more, length-nodes, nodes-deeper, namer}
 
 -- What is false where a does not pass.
 pub unless : (a b : Bool) → not a && b ≡ false → T a ⊎ (b ≡ false)
@@ -25,13 +25,29 @@ pub cond-same : {x y : ℕ} (b : Bool) (n : ℕ) → (b ≡ false → x ≡ y) �
 cond-same true n e = refl
 cond-same false n e = e refl
 
+-- No refusal: none of the first, nor of the later ones.
+pub later-none : (n x : ℕ) → cond (eqb n 0) x n ≡ 0 → (n ≡ 0) × (x ≡ 0)
+later-none zero x e = (refl, e)
+later-none (suc n) x e = absurd (omega (arith, rw eqb·suc-zero at e))
+
+-- A word that does not fail the test for zero.
+pub zero-word : (n : ℕ) → not (eqb n 0) ≡ false → n ≡ 0
+zero-word n e = eqb→eq n 0 (passes (eqb n 0) e)
+
 module _ (t : List ℕ) where
-  -- Of any table: the head is not on the chain.
+  -- Of any table: the head is not among the records that are followed, so not on the chain.
+  pub trail-positive : (k x : ℕ) → T (member x (trail t k)) → 1 ≤ x
+  trail-positive k x h =
+      let z : x ≡ 0 → ⊥ = λ d. omega (arith, follow-zero (records t) t k, member-count 0 (trail t k) .0 (rw d at h)) in
+      omega arith
+
   pub chain-positive : (k : ℕ) → Chained t k → 1 ≤ k
   unfolding chain
-  chain-positive k h =
-      let z : k ≡ 0 → ⊥ = λ d. omega (arith, follow-zero (records t) t (nextOf t 0), member-count 0 (chain t) .0 (rw d at h)) in
-      omega arith
+  chain-positive = trail-positive (nextOf t 0)
+
+  pub free-positive : (k : ℕ) → Free t k → 1 ≤ k
+  unfolding free
+  free-positive = trail-positive (firstFree t)
 
   -- Without 1: there is a head, there are at most 4,097 records, and each has all its bytes.
   pub length-bounds : badLength t ≡ false → (1 ≤ records t) × (records t ≤ 4097) × (length t ≡ 8 * records t)
@@ -43,18 +59,51 @@ module _ (t : List ℕ) where
       let m = ltb-false 32776 (length t) (b .1) in
       (omega (arith, eqb-false (length t) 0 (a .0), w), omega (arith, w, m), omega (arith, w))
 
-  -- Without 3: the chain is within the table, and no record is on it twice.
+  -- Records that are not broken: within the table, no record twice.
+  pub unbroken : (ks : List ℕ) → broken t ks ≡ false → Distinct ks × ((k : ℕ) → T (member k ks) → k < records t)
+  unfolding broken beyond
+  unbroken ks e = let b = or-false (any (beyond t) ks) (repeats ks) .0 e in (b .1, λ k h. leb-false (records t) k (any-false (beyond t) ks .0 (b .0) k h))
+
+  pub not-broken : (ks : List ℕ) → Distinct ks → ((k : ℕ) → T (member k ks) → k < records t) → broken t ks ≡ false
+  unfolding broken beyond
+  not-broken ks d w = or-false (any (beyond t) ks) (repeats ks) .1 (any-false (beyond t) ks .1 (λ k h. lt-leb (records t) k (w k h)), d)
+
+  pub trail-within : (k : ℕ) → broken t (trail t k) ≡ false → (x : ℕ) → T (member x (trail t k)) → (1 ≤ x) × (x < records t)
+  trail-within k e x h = (trail-positive k x h, unbroken (trail t k) e .1 x h)
+
+  pub trail-length : (k : ℕ) → badLength t ≡ false → broken t (trail t k) ≡ false → length (trail t k) < records t
+  trail-length k l e = length-between (records t) (trail t k) (length-bounds l .0) (unbroken (trail t k) e .0) (trail-within k e)
+
+  -- Without 3, the chain.
   pub sound-distinct : badChain t ≡ false → Distinct (chain t)
-  unfolding badChain
-  sound-distinct e = or-false (any (beyond t) (chain t)) (repeats (chain t)) .0 e .1
+  sound-distinct e = unbroken (chain t) e .0
 
   pub sound-within : badChain t ≡ false → (k : ℕ) → Chained t k → (1 ≤ k) × (k < records t)
-  unfolding badChain beyond
-  sound-within e k h =
-      omega (arith, chain-positive k h, leb-false (records t) k (any-false (beyond t) (chain t) .0 (or-false (any (beyond t) (chain t)) (repeats (chain t)) .0 e .0) k h))
+  unfolding chain
+  sound-within = trail-within (nextOf t 0)
 
   pub sound-length : badLength t ≡ false → badChain t ≡ false → length (chain t) < records t
-  sound-length l e = length-between (records t) (chain t) (length-bounds l .0) (sound-distinct e) (sound-within e)
+  unfolding chain
+  sound-length = trail-length (nextOf t 0)
+
+  -- Where no record is free, 8 does not hold.
+  pub none-free : firstFree t ≡ 0 → badFree t ≡ false
+  unfolding badFree broken any repeats free
+  none-free e = rw (e, follow-none (records t) t)
+
+  -- Without 8: the free records are not broken; none is on the chain, and their left, right and tag are zero.
+  pub free-unbroken : badFree t ≡ false → broken t (free t) ≡ false
+  unfolding badFree
+  free-unbroken e = or-false (broken t (free t)) _ .0 e .0
+
+  pub free-vacant : badFree t ≡ false → (k : ℕ) → Free t k → (Chained t k → ⊥) × (leftOf t k ≡ 0) × (rightOf t k ≡ 0) × (tagOf t k ≡ 0)
+  unfolding badFree occupied
+  free-vacant e k h =
+      let a = any-false _ (free t) .0 (or-false (broken t (free t)) _ .0 e .1) k h in
+      let b = or-false (member k (chain t)) (occupied t k) .0 a in
+      let c = or-false (not (eqb (leftOf t k) 0)) (not (eqb (rightOf t k) 0) || not (eqb (tagOf t k) 0)) .0 (b .1) in
+      let d = or-false (not (eqb (rightOf t k) 0)) (not (eqb (tagOf t k) 0)) .0 (c .1) in
+      (T-false (member k (chain t)) .1 (b .0), zero-word (leftOf t k) (c .0), zero-word (rightOf t k) (d .0), zero-word (tagOf t k) (d .1))
 
   -- Without 4: the links of chained records are zero or chained.
   pub sound-links : badLinks t ≡ false → (k : ℕ) (s : Side) → Chained t k → (linkOf t s k ≡ 0) ⊎ Chained t (linkOf t s k)

@@ -8,10 +8,25 @@ use native.Mathlib.Omega.{arith}
 use lib.Dec.{T, eqb·zero-suc, eqb·suc-zero}
 use lib.ListN.{length, length-append}
 use Rattle.table.specs.Lists.{member, count}
-use Rattle.table.specs.Table.{Side, left, right, nextOf, leftOf, rightOf, linkOf, follow}
+use Rattle.table.specs.Table.{Side, left, right, word, nextOf, leftOf, rightOf, linkOf, follow}
 use Rattle.table.specs.Tree.{Tree, none, node, size, nodes, descend}
 use Rattle.table.specs.Refusal.{links}
 use Rattle.table.proofs.Lists.{or-T, member-cons, member-append, same, same-one, Alike, alike, count-append, member-count, within-cons, within-one, links-within}
+
+-- "a side (0 left, 1 right)"; the link on a side is the word after that number
+unfoldable pub number : Side → ℕ
+number left = 0
+number right = 1
+
+pub number-bound : (s : Side) → number s < 2
+unfolding number
+number-bound left = omega arith
+number-bound right = omega arith
+
+pub link-word : (t : List ℕ) (s : Side) (k : ℕ) → linkOf t s k ≡ word t k (suc (number s))
+unfolding number
+link-word t left k = refl
+link-word t right k = refl
 
 -- Zero is none, and on no list.
 pub follow-none : (n : ℕ) (t : List ℕ) → follow n t 0 ≡ []
@@ -36,7 +51,21 @@ nodes-zero zero t k = refl
 nodes-zero (suc n) t zero = refl
 nodes-zero (suc n) t (suc k) = rw (eqb·zero-suc, count-append) (omega (arith, nodes-zero n t (leftOf t (suc k)), nodes-zero n t (rightOf t (suc k))))
 
--- Two tables with the same next at each record of the chain.
+-- Only from zero is nothing followed.
+pub follow-empty : (n : ℕ) (t : List ℕ) (k : ℕ) → 0 < n → length (follow n t k) ≡ 0 → k ≡ 0
+unfolding follow
+follow-empty zero t k h e = absurd (omega arith)
+follow-empty (suc n) t zero h e = refl
+follow-empty (suc n) t (suc k) h e = absurd (omega arith)
+
+-- A record is among those followed from it on.
+pub follow-first : (n : ℕ) (t : List ℕ) (k : ℕ) → 0 < n → 0 < k → T (member k (follow n t k))
+unfolding follow
+follow-first zero t k h z = absurd (omega arith)
+follow-first (suc n) t zero h z = absurd (omega arith)
+follow-first (suc n) t (suc k) h z = member-cons (suc k) (suc k) (follow n t (nextOf t (suc k))) .1 (inl refl)
+
+-- Two tables with the same next at each record that is followed.
 pub follow-same : (t u : List ℕ) (n k : ℕ) → ((x : ℕ) → T (member x (follow n t k)) → nextOf u x ≡ nextOf t x) → follow n u k ≡ follow n t k
 unfolding follow
 follow-same t u zero k e = refl

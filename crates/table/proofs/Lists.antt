@@ -8,7 +8,7 @@ use Prim.Native.Nat.{ℕ, zero, suc, _+_, _≤_, _<_, zero-le}
 use native.Mathlib.Omega.{arith}
 use lib.Dec.{T, eqb, eqb→eq, eqb-refl}
 use lib.ListN.{length}
-use borrow.Author.Tests.{eqb-true, eqb-false, eq-eqb}
+use borrow.Author.Tests.{eqb-true, eqb-false, eq-eqb, ne-eqb}
 use Rattle.table.specs.Lists.{any, member, repeats, count}
 use Rattle.table.specs.Table.{leftOf, rightOf}
 use Rattle.table.specs.Refusal.{links}
@@ -58,6 +58,11 @@ unfolding any
 any-same f g [] e = refl
 any-same f g (n ∷ ns) e = ap₂ _||_ (e n (member-cons n n ns .1 (inl refl))) (any-same f g ns (λ k m. e k (member-cons k n ns .1 (inr m))))
 
+-- A list with no members.
+pub no-members : (ks : List ℕ) → ((k : ℕ) → T (member k ks) → ⊥) → ks ≡ []
+no-members [] h = refl
+no-members (n ∷ ns) h = absurd (h n (member-cons n n ns .1 (inl refl)))
+
 pub member-append : (k : ℕ) (a b : List ℕ) → member k (a ++ b) ≡ member k a || member k b
 unfolding member
 member-append k [] b = refl
@@ -74,6 +79,9 @@ same k n = cond (eqb k n) 1 0
 
 pub same-one : (k n : ℕ) → k ≡ n → same k n ≡ 1
 same-one k n e = rw (eq-eqb k n e)
+
+pub same-zero : (k n : ℕ) → (k ≡ n → ⊥) → same k n ≡ 0
+same-zero k n h = rw (ne-eqb k n h)
 
 abbrev pub Alike : ℕ → ℕ → Type 0
 Alike k n = ((k ≡ n) × (same k n ≡ 1)) ⊎ ((k ≡ n → ⊥) × (same k n ≡ 0))
@@ -94,6 +102,12 @@ pub length-sum : (ks : List ℕ) → length ks ≡ sum (λ k. 1) ks
 unfolding sum
 length-sum [] = refl
 length-sum (k ∷ ks) = omega (arith, length-sum ks)
+
+-- Two weights that agree on the list.
+pub sum-same : (f g : ℕ → ℕ) (ks : List ℕ) → ((k : ℕ) → T (member k ks) → f k ≡ g k) → sum f ks ≡ sum g ks
+unfolding sum
+sum-same f g [] e = refl
+sum-same f g (n ∷ ns) e = omega (arith, e n (member-cons n n ns .1 (inl refl)), sum-same f g ns (λ k m. e k (member-cons k n ns .1 (inr m))))
 
 pub sum-append : (f : ℕ → ℕ) (a b : List ℕ) → sum f (a ++ b) ≡ sum f a + sum f b
 unfolding sum
@@ -120,6 +134,11 @@ member-none k ks =
 -- A distinct list counts nothing twice.
 abbrev pub Distinct : List ℕ → Type 0
 Distinct ks = repeats ks ≡ false
+
+-- The first of a distinct list is not among the others.
+pub distinct-cons : (k : ℕ) (ks : List ℕ) → Distinct (k ∷ ks) → (T (member k ks) → ⊥) × Distinct ks
+unfolding repeats
+distinct-cons k ks d = let b = or-false (member k ks) (repeats ks) .0 d in (T-false (member k ks) .1 (b .0), b .1)
 
 pub repeats-count : (ks : List ℕ) → Distinct ks ↔ ((k : ℕ) → count k ks ≤ 1)
 unfolding repeats count

@@ -2,18 +2,18 @@
 use mathlib.Core.Path.{_≡_, refl, sym, ap, _∙_}
 use mathlib.Core.Bool.{Bool, true, false, not, cond, _||_, or-assoc, or-true, and-false, false≢true}
 use mathlib.Core.List.{List, []}
-use Prim.Native.Nat.{ℕ, zero, suc, _<_}
+use Prim.Native.Nat.{ℕ}
 use native.Mathlib.Omega.{arith}
 use lib.Dec.{eqb}
 use lib.ListN.{length, getD, set, length-set}
 use lib.Seq.{getD-set-same}
 use borrow.Author.Tests.{eq-eqb, ne-eqb, eqb-true, eqb-false, not-false}
 use Rattle.table.specs.Lists.{member}
-use Rattle.table.specs.Table.{records, nextOf, rootOf, follow, chain}
+use Rattle.table.specs.Table.{records, nextOf, rootOf, chain}
 use Rattle.table.specs.Refusal.{badChain, badLinks, isEmpty, named, badTree}
 use Rattle.table.specs.inner.Steps.{Shaped, Listed, Marked, Rooted, Ordered, Filled, Grown, notOnce, notReached}
 use Rattle.table.proofs.Lists.{T-true, T-false, or-false}
-use Rattle.table.proofs.Chain.{follow-none}
+use Rattle.table.proofs.Chain.{follow-none, follow-empty}
 use Rattle.table.proofs.Causes.{sound-within}
 
 -- With a root, the tree is not empty.
@@ -22,17 +22,11 @@ unfolding badTree isEmpty notOnce notReached
 tree-tests t h =
     rw (ne-eqb (rootOf t) 0 h, and-false) (ap (λ (b : Bool). not (member (rootOf t) (chain t)) || b) (sym (or-assoc (not (eqb (named t (rootOf t)) 0)) (notOnce t) (notReached t))))
 
-starts : (n : ℕ) (t : List ℕ) (k : ℕ) → 0 < n → length (follow n t k) ≡ 0 → k ≡ 0
-unfolding follow
-starts zero t k h e = absurd (omega arith)
-starts (suc n) t zero h e = refl
-starts (suc n) t (suc k) h e = absurd (omega arith)
-
 -- Without one, it is empty if the chain is.
 tree-empty : (t : List ℕ) → Shaped t → rootOf t ≡ 0 → length (chain t) ≡ 0 → badTree t ≡ false
 unfolding badTree isEmpty chain
 tree-empty t s e l =
-    rw (eq-eqb (nextOf t 0) 0 (starts (records t) t (nextOf t 0) (s .head) l), eq-eqb (rootOf t) 0 e)
+    rw (eq-eqb (nextOf t 0) 0 (follow-empty (records t) t (nextOf t 0) (s .head) l), eq-eqb (rootOf t) 0 e)
 
 tree-headless : (t : List ℕ) → badChain t ≡ false → rootOf t ≡ 0 → (length (chain t) ≡ 0 → ⊥) → badTree t ≡ true
 unfolding badTree isEmpty
@@ -45,7 +39,7 @@ tree-headless t b e l =
 pub grown-bad : (t : List ℕ) (n : ℕ) (order : List ℕ) → badTree t ≡ true → Grown t false n order
 grown-bad t n order e = record { good = rw e; ordered = λ z. absurd (false≢true z) }
 
-pub marked-by : (t mark : List ℕ) (k : ℕ) (r : Bool) → (k ≡ 0 → ⊥) → Marked t mark → r ≡ not (eqb (getD mark k 0) 0) → r ≡ member k (chain t)
+pub marked-by : (t mark : List ℕ) (k : ℕ) (r : Bool) → (k ≡ 0 → ⊥) → Marked (chain t) mark → r ≡ not (eqb (getD mark k 0) 0) → r ≡ member k (chain t)
 marked-by t mark k r n m e = e ∙ rw (m .marks k, ne-eqb k 0 n) (go (member k (chain t)))
   where
     go : (b : Bool) → not (eqb (cond b 1 0) 0) ≡ b
@@ -57,7 +51,7 @@ pub unfilled : (t sizes : List ℕ) → length sizes ≡ 4097 → Filled t [] (s
 unfolding member
 unfilled t sizes l = record { long = simp length-set l; sized = λ k h. absurd h; none = getD-set-same sizes 0 0 0 (omega arith) }
 
-pub rootless : (t : List ℕ) (n : ℕ) (list order : List ℕ) → Listed t n list → rootOf t ≡ 0 → Grown t (eqb n 0) n order
+pub rootless : (t : List ℕ) (n : ℕ) (list order : List ℕ) → Listed t (chain t) n list → rootOf t ≡ 0 → Grown t (eqb n 0) n order
 rootless t n list order l e = go (eqb n 0) refl
   where
     go : (b : Bool) → eqb n 0 ≡ b → Grown t b n order

@@ -1,4 +1,4 @@
--- Counting the links of the records walked. Rests on Lists and Chain.
+-- Counting the links of the records of a listed chain. Rests on Lists, Chain and Causes.
 use mathlib.Core.Path.{_≡_, refl, sym, ap, _∙_}
 use mathlib.Core.Logic.{inl, inr, ⊎-elim}
 use mathlib.Core.Bool.{Bool, true, false}
@@ -7,15 +7,16 @@ use Prim.Native.Nat.{ℕ, suc, _+_, _*_, _≤_, _<_}
 use native.Mathlib.Numerals.{add-one}
 use native.Mathlib.Omega.{arith}
 use lib.ListN.{length, getD, take, set, length-set, length-append, List·getD-eq-default}
-use lib.Seq.{take-suc-set, getD-set-same, getD-set-other, length-take-le}
+use lib.Seq.{take-suc, getD-set-same, getD-set-other, length-take-le}
 use lib.Dec.{ltb}
 use borrow.Author.Tests.{ltb-true, ltb-false}
 use Rattle.table.specs.Lists.{count}
 use Rattle.table.specs.Table.{leftOf, rightOf, chain}
 use Rattle.table.specs.Refusal.{links}
-use Rattle.table.specs.inner.Steps.{Blank, Tallied}
+use Rattle.table.specs.inner.Steps.{Listed, Blank, Tallied}
 use Rattle.table.proofs.Lists.{same, same-one, Alike, alike, count-append}
 use Rattle.table.proofs.Chain.{links-append}
+use Rattle.table.proofs.Causes.{sound-length}
 
 -- tally has how often each number stands in the list.
 pub record Counts (ks tally : List ℕ) : Type 0 where
@@ -55,13 +56,15 @@ counts-more ks tally after n c e = rw e (record { long = simp length-set (c .lon
     go k h (inl e) = rw (sym (e .0)) (getD-set-same tally k _ 0 (omega (arith, c .long)) ∙ omega (arith, c .counts k h, same-one k k refl))
     go k h (inr e) = rw (getD-set-other tally n k (getD tally n 0 + 1) 0 (e .0)) (omega (arith, c .counts k h))
 
--- The links of the records walked, and of one more.
-pub links-few : (t list : List ℕ) (i : ℕ) → i < 4097 → i ≤ length list → length (links t (take i list)) ≤ 8192
-links-few t list i h l = omega (arith, length-links t (take i list), length-take-le i list l)
+-- The links of the first records of the chain, and of one more.
+module _ (t list : List ℕ) (n : ℕ) (l : Listed t (chain t) n list) where
+  pub links-few : (i : ℕ) → i < n → length (links t (take i list)) ≤ 8192
+  links-few i h =
+      omega (arith, length-links t (take i list), length-take-le i list (omega (arith, l .long)), l .nodes, sound-length t (l .shaped .whole) (l .sound), l .shaped .room)
 
-pub links-more : (t list : List ℕ) (i k : ℕ) → i < length list → links t (take (i + 1) (set list i k)) ≡ (links t (take i list) ++ (leftOf t k ∷ [])) ++ (rightOf t k ∷ [])
-unfolding links
-links-more t list i k h = rw (add-one, take-suc-set list i k h, links-append, append-assoc)
+  pub links-more : (i : ℕ) → i < n → links t (take (i + 1) list) ≡ (links t (take i list) ++ (leftOf t (getD list i 0) ∷ [])) ++ (rightOf t (getD list i 0) ∷ [])
+  unfolding links
+  links-more i h = rw (add-one, take-suc list i 0 (omega (arith, l .long)), links-append, append-assoc)
 
-pub counted-all : (t tally ks : List ℕ) → ks ≡ chain t → Counts (links t ks) tally → Tallied t tally
-counted-all t tally ks e c = record { long = c .long; tallies = λ k h. c .counts k h ∙ ap (λ (l : List ℕ). count k (links t l)) e }
+  pub counted-all : (tally : List ℕ) (i : ℕ) → i ≡ n → Counts (links t (take i list)) tally → Tallied t tally
+  counted-all tally i e c = record { long = c .long; tallies = λ k h. c .counts k h ∙ ap (λ (ks : List ℕ). count k (links t ks)) (rw e (l .listed)) }

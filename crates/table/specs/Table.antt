@@ -1,4 +1,4 @@
--- Words, records, the chain and the lines of a table of bytes (document 01, "The rack table", "Words of the sheet").
+-- Words, records, the chain, the free records and the lines of a table of bytes (document 01, "The rack table", "Words of the sheet"; document 02, Paper 5).
 use mathlib.Core.Path.{_≡_}
 use mathlib.Core.Logic.{_≢_}
 use mathlib.Core.List.{List, [], _∷_}
@@ -46,14 +46,29 @@ follow zero t k = []
 follow (suc n) t zero = []
 follow (suc n) t (suc k) = suc k ∷ follow n t (nextOf t (suc k))
 
--- The chain: "Starting at the head, which is no box and not on the chain". It is followed for as many steps as there are records: a chain of so many records
--- goes beyond the table or meets one twice, and is refused with 3. In an accepted table more steps add nothing (`chain-ended`, proofs/Accepted).
+-- They are followed for as many steps as there are records: so many records go beyond the table or meet one twice, and are refused with 3 or 8. In an accepted
+-- table more steps add nothing (`chain-ended`, `free-ended`, proofs/Accepted).
+abbrev pub trail : List ℕ → ℕ → List ℕ
+trail t k = follow (records t) t k
+
+-- The chain: "Starting at the head, which is no box and not on the chain"
 unfoldable pub chain : List ℕ → List ℕ
-chain t = follow (records t) t (nextOf t 0)
+chain t = trail t (nextOf t 0)
 
 -- "over chained boxes": k is a record of the chain
 abbrev pub Chained : List ℕ → ℕ → Type 0
 Chained t k = T (member k (chain t))
+
+-- "The head's right word now names the first free record"
+abbrev pub firstFree : List ℕ → ℕ
+firstFree t = rightOf t 0
+
+-- "and free records are chained by next": the free chain; k is one of its records
+unfoldable pub free : List ℕ → List ℕ
+free t = trail t (firstFree t)
+
+abbrev pub Free : List ℕ → ℕ → Type 0
+Free t k = T (member k (free t))
 
 -- "A line is the straight segment from a box to one of its children": from the chained node k to its child c on the side s
 pub record Line (t : List ℕ) (k : ℕ) (s : Side) (c : ℕ) : Type 0 where

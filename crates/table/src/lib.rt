@@ -11,15 +11,17 @@ use crate::links::strays;
 use crate::naming::misnamed;
 use crate::reach::measure;
 use crate::reach::reaches;
+use crate::walk::spoiled;
 use crate::walk::walk;
 use crate::words::left;
-use crate::words::right;
+use crate::words::next;
 use crate::words::tag;
 ghost use mathlib.Core.Path.{_≡_};
 ghost use mathlib.Core.Bool.{cond, false};
 ghost use lib.ListN.{length};
+ghost use Rattle.table.specs.Table.{chain as chainOf};
 ghost use Rattle.table.specs.Refusal.{badLength, badHead, badLinks, refusal};
-ghost use Rattle.table.specs.inner.Reading.{TracedOf, ReadOf};
+ghost use Rattle.table.specs.inner.Reading.{Examined, TracedOf, ReadOf};
 ghost use Rattle.table.specs.inner.Steps.{Blank, Listed, Marked, Tallied, Grown};
 
 // A refusal, or 0 and the number of nodes.
@@ -51,9 +53,6 @@ fn shape(table: &[u8]) -> u16
     if 32776 < bytes {
         return 1;
     }
-    if right(table, 0) != 0 {
-        return 2;
-    }
     if tag(table, 0) != 0 {
         return 2;
     }
@@ -62,8 +61,8 @@ fn shape(table: &[u8]) -> u16
 
 // Whether the records of the chain make a tree; then lists its nodes, breadth first, in place of how often they are named.
 fn grow(table: &[u8], chain: &[u16], nodes: usize, mark: &[u16], order: &mut [u16]) -> bool
-    requires { ⌜ Listed (now table) nodes (now chain) ⌝ }
-    requires { ⌜ Marked (now table) (now mark) ⌝ }
+    requires { ⌜ Listed (now table) (chainOf (now table)) nodes (now chain) ⌝ }
+    requires { ⌜ Marked (chainOf (now table)) (now mark) ⌝ }
     requires { ⌜ badLinks (now table) ≡ false ⌝ }
     requires { ⌜ Tallied (now table) (now order) ⌝ }
     ensures { λ r. ⌜ Grown (now (table .entry)) r nodes (now (order .exit)) ⌝ }
@@ -81,32 +80,48 @@ fn grow(table: &[u8], chain: &[u16], nodes: usize, mark: &[u16], order: &mut [u1
     reaches(table, nodes, order)
 }
 
-// Causes 1 to 6. Of an accepted table, chain lists the nodes, and order lists them breadth first.
-pub fn trace(table: &[u8], places: usize, chain: &mut [u16], order: &mut [u16]) -> Reading
+// Causes 1 to 5 and 8, from the bytes alone. Of an accepted table, chain lists the nodes, and order lists them breadth first.
+pub fn examine(table: &[u8], chain: &mut [u16], order: &mut [u16]) -> Reading
     requires { ⌜ length (now chain) ≡ 4097 ⌝ }
     requires { ⌜ Blank (now order) ⌝ }
-    ensures { λ r. ⌜ TracedOf (now (table .entry)) places r (now (chain .exit)) (now (order .exit)) ⌝ }
+    ensures { λ r. ⌜ Examined (now (table .entry)) r (now (chain .exit)) (now (order .exit)) ⌝ }
 {
     let unfit = shape(table);
     if unfit != 0 {
         return refused(unfit);
     }
     let mut mark = [0u16; 4097];
-    let walked = walk(table, chain, &mut mark, order);
-    if walked.refusal != 0 {
-        return walked;
+    let walked = walk(table, next(table, 0), chain, &mut mark);
+    if walked.broken {
+        return refused(3);
     }
-    let nodes = walked.nodes;
-    if strays(table, chain, nodes, &mark) {
+    if spoiled(table, &mark) {
+        return refused(8);
+    }
+    let nodes = walked.count;
+    if strays(table, chain, nodes, &mark, order) {
         return refused(4);
     }
     if !grow(table, chain, nodes, &mark, order) {
         return refused(5);
     }
+    Reading { refusal: 0, nodes }
+}
+
+// And 6, from the number of placements.
+pub fn trace(table: &[u8], places: usize, chain: &mut [u16], order: &mut [u16]) -> Reading
+    requires { ⌜ length (now chain) ≡ 4097 ⌝ }
+    requires { ⌜ Blank (now order) ⌝ }
+    ensures { λ r. ⌜ TracedOf (now (table .entry)) places r (now (chain .exit)) (now (order .exit)) ⌝ }
+{
+    let reading = examine(table, chain, order);
+    if reading.refusal != 0 {
+        return reading;
+    }
     if places < 2 * (table.len() / 8) {
         return refused(6);
     }
-    Reading { refusal: 0, nodes }
+    reading
 }
 
 // The same. Of an accepted table, sizes has the size of the subtree at each node.

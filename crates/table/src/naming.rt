@@ -4,7 +4,7 @@ ghost use mathlib.Core.Bool.{_||_, _&&_, not};
 ghost use Prim.Native.Nat.{_+_, _<_};
 ghost use lib.Dec.{eqb};
 ghost use lib.ListN.{length, getD, set};
-ghost use Rattle.table.specs.Table.{rootOf};
+ghost use Rattle.table.specs.Table.{rootOf, chain as chainOf};
 ghost use Rattle.table.specs.Refusal.{named};
 ghost use Rattle.table.specs.inner.Steps.{Listed, Tallied, notOnce};
 
@@ -32,7 +32,7 @@ fn not_once(tally: &[u16], root: usize, k: usize) -> bool
 
 // Whether a chained node is so.
 fn some_not_once(table: &[u8], chain: &[u16], nodes: usize, tally: &[u16], root: usize) -> bool
-    requires { ⌜ Listed (now table) nodes (now chain) ⌝ }
+    requires { ⌜ Listed (now table) (chainOf (now table)) nodes (now chain) ⌝ }
     requires { ⌜ Tallied (now table) (now tally) ⌝ }
     requires { ⌜ root ≡ rootOf (now table) ⌝ }
     ensures { λ r. ⌜ r ≡ notOnce (now (table .entry)) ⌝ }
@@ -49,7 +49,7 @@ fn some_not_once(table: &[u8], chain: &[u16], nodes: usize, tally: &[u16], root:
 
 // Whether the root is named, or another chained node not exactly once.
 pub fn misnamed(table: &[u8], chain: &[u16], nodes: usize, root: usize, tally: &[u16]) -> bool
-    requires { ⌜ Listed (now table) nodes (now chain) ⌝ }
+    requires { ⌜ Listed (now table) (chainOf (now table)) nodes (now chain) ⌝ }
     requires { ⌜ root ≡ rootOf (now table) ⌝ }
     requires { ⌜ root < 4097 ⌝ }
     requires { ⌜ Tallied (now table) (now tally) ⌝ }

@@ -1,4 +1,4 @@
--- "The left, right and tag of a record off the chain change no answer", of the text: `off-chain-text`. Rests on that law of tables and of the drawer.
+-- Of records on neither chain "left, right and tag change no answer": of the text, `off-chain-text`. Rests on that law of tables and of the drawer.
 use mathlib.Core.Path.{_≡_, refl, ap}
 use mathlib.Core.Logic.{inl, inr}
 use mathlib.Core.Bool.{true, false}

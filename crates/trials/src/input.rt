@@ -1,4 +1,5 @@
 // What a case brings: its head, the bytes of a table or a name, the numbers of placements, the number of a stroke.
+ghost use mathlib.Core.Path.{_≡_};
 ghost use Prim.Native.Nat.{_+_, _*_, _<_, _≤_};
 ghost use lib.ListN.{length};
 
@@ -15,7 +16,8 @@ fn byte(x: u8) -> usize
     x as usize
 }
 
-fn word(bytes: &[u8], at: usize) -> usize
+// The word that begins at a byte.
+pub fn word(bytes: &[u8], at: usize) -> usize
     requires { ⌜ at + 1 < length (now bytes) ⌝ }
     ensures { λ r. ⌜ r ≤ 65535 ⌝ }
 {
@@ -66,7 +68,7 @@ pub fn next_number() -> u64 {
 // The next bytes: how many they are.
 pub fn next_bytes(bytes: &mut [u8], count: usize) -> usize
     requires { ⌜ count ≤ length (now bytes) ⌝ }
-    ensures { λ r. ⌜ r ≤ length (now (bytes .entry)) ⌝ }
+    ensures { λ r. ⌜ r ≡ count ⌝ }
 {
     io::read_full(0, &mut bytes[..count]);
     count

@@ -1,4 +1,4 @@
-// Runs the drawer, the check, the allowed width, the wide drawer and the pen on the cases of standard input, and prints every answer.
+// Runs the drawer, the check, the allowed width, the wide drawer, the pen, hanging and cutting on the cases of standard input, and prints every answer.
 // What it must print is made by tests/make_trials.py from the reference program. Proved safe; what it prints is tested.
 //
 // A case is a head of four words (16 bits, low byte first) named kind, count, first, step, and what the kind says:
@@ -14,6 +14,10 @@
 //   9 stroke: four words follow, the stroke's number, low word first; the pitch is count mod 256. Prints 'stroke lift' or
 //     'stroke draw' and the bit patterns of the point's two floats, 'stroke done', or 'stroke refused' and the refusal
 //   10 name: count mod 256 bytes follow, the name of what comes next; prints them as a line
+//   11 hang: at the parent count, on the side first mod 256, with the tag step. Prints 'hang' and the record, or 'hang refused' and the
+//     refusal; and for each record of the table that is changed a line, 'record', its number, and its four words afterwards
+//   12 cut: the node count. Prints 'cut' and the refusal or 0, and the changed records as in 11
+// The table that 11 or 12 leaves is the table from there on.
 // The cases end with the input, or with a head of any other kind.
 mod input;
 mod text;
@@ -28,13 +32,16 @@ use crate::input::next_number;
 use crate::text::number;
 use crate::text::put;
 use crate::text::put_all;
+use crate::text::put_changed;
 use crate::text::put_field;
 use crate::text::put_line;
 use crate::text::put_places;
 use crate::text::put_point;
 use drawing::Drawn;
 use drawing::Plan;
+use hanging::Hung;
 use pen::strokes::Stroke;
+use table::writing::copy;
 use wide::Wide;
 ghost use Prim.Native.Nat.{_<_, _≤_};
 ghost use lib.ListN.{length};
@@ -135,7 +142,64 @@ fn run_name(count: usize, out: &mut [u8], used: usize) -> usize
     put(out, at, b'\n')
 }
 
-// A case that prints.
+// The record that was hung, or the refusal.
+fn put_hung(out: &mut [u8], used: usize, answer: Hung) -> usize
+    requires { ⌜ 0 < length (now out) ⌝ }
+{
+    match answer {
+        Hung::Leaf(record) => put_line(out, used, b"hang", number(record)),
+        Hung::Refused(refusal) => put_line(out, used, b"hang refused", number(refusal)),
+    }
+}
+
+// Hangs on the first bytes of a buffer, and prints the answer and the records that are changed.
+fn run_hang(table: &mut [u8], bytes: usize, out: &mut [u8], used: usize, h: Head) -> usize
+    requires { ⌜ 65536 ≤ length (now table) ⌝ }
+    requires { ⌜ bytes ≤ 65536 ⌝ }
+    requires { ⌜ 0 < length (now out) ⌝ }
+    requires { ⌜ h .count ≤ 65535 ⌝ }
+    requires { ⌜ h .step ≤ 65535 ⌝ }
+{
+    let mut before = [0u8; 65536];
+    copy(&table[..65536], &mut before);
+    let answer = hanging::hang(
+        &mut table[..bytes],
+        h.count as u16,
+        (h.first % 256) as u8,
+        h.step as u16,
+    );
+    let at = put_hung(out, used, answer);
+    put_changed(out, at, &before, table, bytes)
+}
+
+// Cuts on the first bytes of a buffer, and prints the answer and the records that are changed.
+fn run_cut(table: &mut [u8], bytes: usize, out: &mut [u8], used: usize, node: u16) -> usize
+    requires { ⌜ 65536 ≤ length (now table) ⌝ }
+    requires { ⌜ bytes ≤ 65536 ⌝ }
+    requires { ⌜ 0 < length (now out) ⌝ }
+{
+    let mut before = [0u8; 65536];
+    copy(&table[..65536], &mut before);
+    let answer = hanging::cut(&mut table[..bytes], node);
+    let at = put_line(out, used, b"cut", number(answer));
+    put_changed(out, at, &before, table, bytes)
+}
+
+// A case that writes to the table.
+fn change(table: &mut [u8], bytes: usize, out: &mut [u8], used: usize, h: Head) -> usize
+    requires { ⌜ 65536 ≤ length (now table) ⌝ }
+    requires { ⌜ bytes ≤ 65536 ⌝ }
+    requires { ⌜ 0 < length (now out) ⌝ }
+    requires { ⌜ h .count ≤ 65535 ⌝ }
+    requires { ⌜ h .step ≤ 65535 ⌝ }
+{
+    if h.kind == 11 {
+        return run_hang(table, bytes, out, used, h);
+    }
+    run_cut(table, bytes, out, used, h.count as u16)
+}
+
+// A case that leaves the table as it is.
 fn ask(table: &[u8], places: &mut [u16], out: &mut [u8], used: usize, h: Head) -> usize
     requires { ⌜ 0 < length (now out) ⌝ }
     requires { ⌜ h .count ≤ 65535 ⌝ }
@@ -179,24 +243,18 @@ fn give(places: &mut [u16], before: usize, h: Head) -> usize
     before
 }
 
-fn step(table: &mut [u8], places: &mut [u16], out: &mut [u8], s: State) -> State
+// A case that gives the table or the placements.
+fn take(table: &mut [u8], places: &mut [u16], s: State, h: Head) -> State
     requires { ⌜ 65536 ≤ length (now table) ⌝ }
     requires { ⌜ 65536 ≤ length (now places) ⌝ }
-    requires { ⌜ 0 < length (now out) ⌝ }
-    requires { ⌜ s .bytes ≤ length (now table) ⌝ }
+    requires { ⌜ s .bytes ≤ 65536 ⌝ }
     requires { ⌜ s .places ≤ length (now places) ⌝ }
-    ensures { λ r. ⌜ r .bytes ≤ length (now (table .entry)) ⌝ }
+    requires { ⌜ h .count ≤ 65535 ⌝ }
+    requires { ⌜ h .first ≤ 65535 ⌝ }
+    requires { ⌜ h .step ≤ 65535 ⌝ }
+    ensures { λ r. ⌜ r .bytes ≤ 65536 ⌝ }
     ensures { λ r. ⌜ r .places ≤ length (now (places .entry)) ⌝ }
 {
-    let h = next_head();
-    if h.kind == 0 || 10 < h.kind {
-        return State {
-            bytes: s.bytes,
-            places: s.places,
-            used: s.used,
-            more: false,
-        };
-    }
     if h.kind == 1 {
         return State {
             bytes: next_bytes(table, h.count),
@@ -205,21 +263,58 @@ fn step(table: &mut [u8], places: &mut [u16], out: &mut [u8], s: State) -> State
             more: true,
         };
     }
-    if h.kind < 5 {
-        return State {
-            bytes: s.bytes,
-            places: give(places, s.places, h),
-            used: s.used,
-            more: true,
-        };
+    State {
+        bytes: s.bytes,
+        places: give(places, s.places, h),
+        used: s.used,
+        more: true,
     }
+}
+
+// A case that prints: how much of the output waits.
+fn answer(table: &mut [u8], places: &mut [u16], out: &mut [u8], s: State, h: Head) -> usize
+    requires { ⌜ 65536 ≤ length (now table) ⌝ }
+    requires { ⌜ 0 < length (now out) ⌝ }
+    requires { ⌜ s .bytes ≤ 65536 ⌝ }
+    requires { ⌜ s .places ≤ length (now places) ⌝ }
+    requires { ⌜ h .count ≤ 65535 ⌝ }
+    requires { ⌜ h .first ≤ 65535 ⌝ }
+    requires { ⌜ h .step ≤ 65535 ⌝ }
+{
     let n = s.bytes;
     let m = s.places;
-    let used = ask(&table[..n], &mut places[..m], out, s.used, h);
+    if 10 < h.kind {
+        return change(table, n, out, s.used, h);
+    }
+    ask(&table[..n], &mut places[..m], out, s.used, h)
+}
+
+// The next case.
+fn step(table: &mut [u8], places: &mut [u16], out: &mut [u8], s: State) -> State
+    requires { ⌜ 65536 ≤ length (now table) ⌝ }
+    requires { ⌜ 65536 ≤ length (now places) ⌝ }
+    requires { ⌜ 0 < length (now out) ⌝ }
+    requires { ⌜ s .bytes ≤ 65536 ⌝ }
+    requires { ⌜ s .places ≤ length (now places) ⌝ }
+    ensures { λ r. ⌜ r .bytes ≤ 65536 ⌝ }
+    ensures { λ r. ⌜ r .places ≤ length (now (places .entry)) ⌝ }
+{
+    let h = next_head();
+    if h.kind == 0 || 12 < h.kind {
+        return State {
+            bytes: s.bytes,
+            places: s.places,
+            used: s.used,
+            more: false,
+        };
+    }
+    if h.kind < 5 {
+        return take(table, places, s, h);
+    }
     State {
-        bytes: n,
-        places: m,
-        used,
+        bytes: s.bytes,
+        places: s.places,
+        used: answer(table, places, out, s, h),
         more: true,
     }
 }

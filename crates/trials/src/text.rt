@@ -1,6 +1,7 @@
 // Text through one buffer, written out where it is full.
+use crate::input::word;
 use pen::points::PenPoint;
-ghost use Prim.Native.Nat.{_<_, _≤_};
+ghost use Prim.Native.Nat.{_+_, _<_, _≤_};
 ghost use lib.ListN.{length};
 
 pub fn number(x: u16) -> u64
@@ -115,6 +116,67 @@ pub fn put_places(out: &mut [u8], used: usize, numbers: &[u16]) -> usize
         return put_line(out, used, b"sum", sum_of(numbers));
     }
     put_numbers(out, used, numbers)
+}
+
+// Whether a record differs.
+fn differs(before: &[u8], table: &[u8], at: usize) -> bool
+    requires { ⌜ at + 7 < length (now before) ⌝ }
+    requires { ⌜ at + 7 < length (now table) ⌝ }
+{
+    word(before, at) != word(table, at)
+        || word(before, at + 2) != word(table, at + 2)
+        || word(before, at + 4) != word(table, at + 4)
+        || word(before, at + 6) != word(table, at + 6)
+}
+
+// Two words that follow each other.
+fn put_pair(out: &mut [u8], used: usize, table: &[u8], at: usize) -> usize
+    requires { ⌜ 0 < length (now out) ⌝ }
+    requires { ⌜ at + 3 < length (now table) ⌝ }
+{
+    let first = put_field(out, used, word(table, at) as u64);
+    put_field(out, first, word(table, at + 2) as u64)
+}
+
+// The number of a record and its four words.
+fn put_record(out: &mut [u8], used: usize, table: &[u8], at: usize) -> usize
+    requires { ⌜ 0 < length (now out) ⌝ }
+    requires { ⌜ at + 7 < length (now table) ⌝ }
+{
+    let named = put_all(out, used, b"record");
+    let numbered = put_field(out, named, (at / 8) as u64);
+    let linked = put_pair(out, numbered, table, at);
+    let tagged = put_pair(out, linked, table, at + 4);
+    put(out, tagged, b'\n')
+}
+
+// A record, if it differs.
+fn put_if_changed(out: &mut [u8], used: usize, before: &[u8], table: &[u8], at: usize) -> usize
+    requires { ⌜ 0 < length (now out) ⌝ }
+    requires { ⌜ at + 7 < length (now before) ⌝ }
+    requires { ⌜ at + 7 < length (now table) ⌝ }
+{
+    if differs(before, table, at) {
+        return put_record(out, used, table, at);
+    }
+    used
+}
+
+// The records that differ, of those that begin within so many bytes; both buffers go on behind them.
+pub fn put_changed(out: &mut [u8], used: usize, before: &[u8], table: &[u8], bytes: usize) -> usize
+    requires { ⌜ 0 < length (now out) ⌝ }
+    requires { ⌜ 65536 ≤ length (now before) ⌝ }
+    requires { ⌜ 65536 ≤ length (now table) ⌝ }
+    requires { ⌜ bytes ≤ 65536 ⌝ }
+{
+    let records = (bytes + 7) / 8;
+    let mut at = used;
+    let mut k = 0;
+    while k < records {
+        at = put_if_changed(out, at, before, table, 8 * k);
+        k += 1;
+    }
+    at
 }
 
 pub fn flush(out: &[u8], used: usize) {

@@ -1,4 +1,4 @@
--- "The left, right and tag of a record off the chain change no answer", of the check: `off-chain-verdict`. Rests on that law of tables.
+-- Of records on neither chain "left, right and tag change no answer": of the check, `off-chain-verdict`. Rests on that law of tables.
 use mathlib.Core.Path.{_≡_, sym, _∙_}
 use mathlib.Core.Logic.{_↔_, _⊎_, inl, inr, ⊎-map}
 use mathlib.Core.List.{List}

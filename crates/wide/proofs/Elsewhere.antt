@@ -1,5 +1,5 @@
 -- The wide call too writes the entries of chained nodes only: "Entries of the head, of unchained records and beyond are kept", refused or not: `wide-kept-head`,
--- `wide-kept-elsewhere`, `wide-kept-beyond`. And off the chain left, right and tag change no answer: `off-chain-wide`. Rests on Answered and Transposed.
+-- `wide-kept-elsewhere`, `wide-kept-beyond`. And left, right and tag of a record on neither chain change no answer: `off-chain-wide`. Rests on Answered and Transposed.
 use mathlib.Core.Path.{_≡_, sym, _∙_}
 use mathlib.Core.List.{List}
 use Prim.Native.Nat.{ℕ, _*_, _/_, _≤_, _<_}

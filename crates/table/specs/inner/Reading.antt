@@ -15,7 +15,12 @@ pub record Traced (t : List ℕ) (n : ℕ) (list order : List ℕ) : Type 0 wher
   pub listed : take n list ≡ chain t
   pub ordered : Ordered t n order
 
--- "A refusal is given if its cause holds and no earlier one does, and never otherwise"; a table that is not refused is listed.
+-- "A refusal is given if its cause holds and no earlier one does, and never otherwise", from the bytes alone; a table that is not refused is listed.
+pub record Examined (t : List ℕ) (r : Reading) (list order : List ℕ) : Type 0 where
+  pub refusal : r .refusal ≡ fault t
+  pub accepted : r .refusal ≡ 0 → Traced t (r .nodes) list order
+
+-- And from the number of placements.
 pub record TracedOf (t : List ℕ) (places : ℕ) (r : Reading) (list order : List ℕ) : Type 0 where
   pub refusal : r .refusal ≡ refusal t places
   pub accepted : r .refusal ≡ 0 → Traced t (r .nodes) list order

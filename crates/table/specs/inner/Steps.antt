@@ -5,48 +5,47 @@ use mathlib.Core.List.{List, [], _∷_}
 use Prim.Native.Nat.{ℕ, zero, suc, _≤_, _<_}
 use lib.Dec.{T, eqb}
 use lib.ListN.{length, getD, take}
-use Rattle.table.specs.declared.Reading.{Reading}
+use Rattle.table.specs.declared.walk.Trail.{Trail}
 use Rattle.table.specs.Lists.{any, member, count}
-use Rattle.table.specs.Table.{records, chain, Chained, rootOf}
+use Rattle.table.specs.Table.{records, trail, chain, Chained, rootOf}
 use Rattle.table.specs.Tree.{nodes, tree, treeAt, size}
-use Rattle.table.specs.Refusal.{badLength, badHead, badChain, badLinks, badTree, links, named}
+use Rattle.table.specs.Refusal.{badLength, badHead, broken, badChain, badLinks, badTree, links, named}
 
 -- Not refused with 1 or 2: there is a head, and no more records than a list of 4,097 has room for.
 pub record Shaped (t : List ℕ) : Type 0 where
   pub whole : badLength t ≡ false
-  pub zeros : badHead t ≡ false
+  pub tagless : badHead t ≡ false
   pub head : 0 < records t
   pub room : records t ≤ 4097
 
--- Nor with 3. The first n numbers of list are the chain.
-pub record Listed (t : List ℕ) (n : ℕ) (list : List ℕ) : Type 0 where
+-- The records ks, those of the chain or the free ones, are within the table, and none is met twice. They are the first n numbers of list.
+pub record Listed (t ks : List ℕ) (n : ℕ) (list : List ℕ) : Type 0 where
   pub shaped : Shaped t
-  pub sound : badChain t ≡ false
-  pub nodes : n ≡ length (chain t)
+  pub sound : broken t ks ≡ false
+  pub nodes : n ≡ length ks
   pub long : n ≤ length list
-  pub listed : take n list ≡ chain t
+  pub listed : take n list ≡ ks
 
 -- A list of 4,097 zeros.
 pub record Blank (l : List ℕ) : Type 0 where
   pub long : length l ≡ 4097
   pub zeros : (k : ℕ) → getD l k 0 ≡ 0
 
--- mark has 1 at zero, which is no child, and at the records of the chain, 0 at the others.
-pub record Marked (t mark : List ℕ) : Type 0 where
+-- mark has 1 at zero, which names no record, and at the records ks, 0 at the others.
+pub record Marked (ks mark : List ℕ) : Type 0 where
   pub long : length mark ≡ 4097
-  pub marks : (k : ℕ) → getD mark k 0 ≡ cond (eqb k 0 || member k (chain t)) 1 0
+  pub marks : (k : ℕ) → getD mark k 0 ≡ cond (eqb k 0 || member k ks) 1 0
 
 -- tally has how often each record is named as a child.
 pub record Tallied (t tally : List ℕ) : Type 0 where
   pub long : length tally ≡ 4097
   pub tallies : (k : ℕ) → k < 4097 → getD tally k 0 ≡ named t k
 
--- What a walk along the chain answers.
-pub record Walked (t : List ℕ) (r : Reading) (list mark tally : List ℕ) : Type 0 where
-  pub refusal : r .refusal ≡ cond (badChain t) 3 0
-  pub chained : r .refusal ≡ 0 → Listed t (r .nodes) list
-  pub marked : r .refusal ≡ 0 → Marked t mark
-  pub tallied : r .refusal ≡ 0 → Tallied t tally
+-- What a walk along the records from k on answers.
+pub record Walked (t : List ℕ) (k : ℕ) (r : Trail) (list mark : List ℕ) : Type 0 where
+  pub breaks : r .broken ≡ broken t (trail t k)
+  pub listed : r .broken ≡ false → Listed t (trail t k) (r .count) list
+  pub marked : r .broken ≡ false → Marked (trail t k) mark
 
 -- The parts of cause 5 that are left when the root is on the chain: another chained node is not named exactly once, one is not reached.
 unfoldable pub notOnce : List ℕ → Bool

@@ -7,7 +7,7 @@ use Rattle.trials.proofs.run.Statement.{statement}
 use Rattle.trials.proofs.run.Tie as tie
 
 abbrev Inv-loop : tie.InvT-loop
-Inv-loop table₀ places₀ out₀ s₀ turns₀ table places out s turns = (length table ≡ length table₀) × ((length places ≡ length places₀) × ((length out ≡ length out₀) × ((s .bytes ≤ length table) × (s .places ≤ length places))))
+Inv-loop table₀ places₀ out₀ s₀ turns₀ table places out s turns = (length table ≡ length table₀) × ((length places ≡ length places₀) × ((length out ≡ length out₀) × ((s .bytes ≤ 65536) × (s .places ≤ length places))))
 
 abbrev μ-loop : tie.MeasureT-loop
 μ-loop table₀ places₀ out₀ s₀ turns₀ table places out s turns = turns

@@ -41,15 +41,15 @@ cast-not-once c = omega (arith, c .shared-slice-known4 .given (c .before .before
 not-once-requires : tie.Need-not-once-requires Inv-loop μ-loop
 not-once-requires c κs =
     let p = c .before .before .before .before .before .before .pre in
-    omega (arith, listed-inside _ _ _ (p .0) _ (c .before .loop-test .taken), p .0 .shaped .room, p .1 .0 .long)
+    omega (arith, listed-inside _ _ _ _ (p .0) _ (c .before .loop-test .taken), p .0 .shaped .room, p .1 .0 .long)
 
 returns : tie.Need-returns Inv-loop μ-loop
 unfolding notOnce
 returns c =
     let s = c .before .before .before .before .before .before .before .before in
     sym
-    (scan-hit _ _ _ (s .pre .0) (notOnceAt (s .args .table .now)) _ (c .before .before .before .loop-test .taken)
-    (not-once-by _ _ _ _ _ _ (omega (arith, listed-inside _ _ _ (s .pre .0) _ (c .before .before .before .loop-test .taken), s .pre .0 .shaped .room)) (s .pre .1 .0) (s .pre .1 .1) (c .before .not-once .ensures) (c .if1 .taken)))
+    (scan-hit _ _ _ _ (s .pre .0) (notOnceAt (s .args .table .now)) _ (c .before .before .before .loop-test .taken)
+    (not-once-by _ _ _ _ _ _ (omega (arith, listed-inside _ _ _ _ (s .pre .0) _ (c .before .before .before .loop-test .taken), s .pre .0 .shaped .room)) (s .pre .1 .0) (s .pre .1 .1) (c .before .not-once .ensures) (c .if1 .taken)))
 
 add-i : tie.Need-add-i Inv-loop μ-loop
 add-i c = omega arith
@@ -61,14 +61,14 @@ loop-again : tie.Need-loop-again Inv-loop μ-loop
 loop-again c =
     let s = c .before .before .before .before .before .before .before .before in (
       omega arith,
-      below-more _ _ (c .before .before .before .before .loop .inv .1) (not-once-by _ _ _ _ _ _ (omega (arith, listed-inside _ _ _ (s .pre .0) _ (c .before .before .before .loop-test .taken), s .pre .0 .shaped .room)) (s .pre .1 .0) (s .pre .1 .1) (c .before .not-once .ensures) (c .if1 .left)),
+      below-more _ _ (c .before .before .before .before .loop .inv .1) (not-once-by _ _ _ _ _ _ (omega (arith, listed-inside _ _ _ _ (s .pre .0) _ (c .before .before .before .loop-test .taken), s .pre .0 .shaped .room)) (s .pre .1 .0) (s .pre .1 .1) (c .before .not-once .ensures) (c .if1 .left)),
     )
 
 returns-2 : tie.Need-returns-2 Inv-loop μ-loop
 unfolding notOnce
 returns-2 c =
     let s = c .before .before .before .before .before in
-    sym (scan-none _ _ _ (s .pre .0) (notOnceAt (s .args .table .now)) (λ j h. c .before .loop .inv .1 j (omega arith)))
+    sym (scan-none _ _ _ _ (s .pre .0) (notOnceAt (s .args .table .now)) (λ j h. c .before .loop .inv .1 j (omega arith)))
 
 pub some-not-once-spec : {M : Type 1} → statement M
 some-not-once-spec =

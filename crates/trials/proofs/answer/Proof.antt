@@ -1,33 +1,21 @@
--- `step` is safe: the table and the placements in use lie within their buffers.
+-- `answer` is safe: the table and the placements in use lie within their buffers.
 use borrow.Author.Needs.{needs}
 use native.Mathlib.Omega.{arith}
 use lib.ListN.{length-take}
-use Rattle.trials.proofs.step.Statement.{statement}
-use Rattle.trials.proofs.step.Tie as tie
+use Rattle.trials.proofs.answer.Statement.{statement}
+use Rattle.trials.proofs.answer.Tie as tie
 
-next-head-requires : tie.Need-next-head-requires
-next-head-requires c κs = search needs
-
-returns : tie.Need-returns
-returns c = search needs
-
-next-bytes-requires : tie.Need-next-bytes-requires
-next-bytes-requires c κs = search needs
+change-requires : tie.Need-change-requires
+change-requires c κs = search needs
 
 same-length : tie.Need-same-length
 same-length c = search needs
 
-returns-2 : tie.Need-returns-2
-returns-2 c = search needs
-
-give-requires : tie.Need-give-requires
-give-requires c κs = search needs
-
 same-length-2 : tie.Need-same-length-2
 same-length-2 c = search needs
 
-returns-3 : tie.Need-returns-3
-returns-3 c = search needs
+returns : tie.Need-returns
+returns c = search needs
 
 slice-reshare-prefix-ask : tie.Need-slice-reshare-prefix-ask
 slice-reshare-prefix-ask c = search needs
@@ -53,21 +41,17 @@ same-length-4 c = search needs
 same-length-5 : tie.Need-same-length-5
 same-length-5 c = search needs
 
-returns-4 : tie.Need-returns-4
-returns-4 c = search needs
+returns-2 : tie.Need-returns-2
+returns-2 c = search needs
 
-pub step-spec : {M : Type 1} → statement M
-step-spec =
+pub answer-spec : {M : Type 1} → statement M
+answer-spec =
     tie.close
     (tie.spec
-    next-head-requires
-    returns
-    next-bytes-requires
+    change-requires
     same-length
-    returns-2
-    give-requires
     same-length-2
-    returns-3
+    returns
     slice-reshare-prefix-ask
     slice-aggregate-ask
     slice-relend-prefix-ask
@@ -76,4 +60,4 @@ step-spec =
     same-length-3
     same-length-4
     same-length-5
-    returns-4)
+    returns-2)
