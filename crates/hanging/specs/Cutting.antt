@@ -45,6 +45,6 @@ cutOut t k =
     write k 2 0 ∷
     write k 3 0 ∷ []) t
 
--- Every byte afterwards. On a refusal "the table is kept".
+-- Every byte afterwards; on a refusal, "The table is kept."
 unfoldable pub afterCut : List ℕ → ℕ → List ℕ
 afterCut t k = elim (eqb (cutRefusal t k) 0) [ true ↦ cutOut t k | false ↦ t ]
