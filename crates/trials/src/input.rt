@@ -102,7 +102,7 @@ fn read_pairs(bytes: &mut [u8], places: &mut [u16], count: usize)
     }
 }
 
-pub fn listed(places: &mut [u16], count: usize) -> usize
+fn listed(places: &mut [u16], count: usize) -> usize
     requires { ⌜ count ≤ 65535 ⌝ }
     requires { ⌜ count ≤ length (now places) ⌝ }
     ensures { λ r. ⌜ r ≤ length (now (places .entry)) ⌝ }
@@ -112,7 +112,7 @@ pub fn listed(places: &mut [u16], count: usize) -> usize
     count
 }
 
-pub fn changed(places: &mut [u16], count: usize)
+fn changed(places: &mut [u16], count: usize)
     requires { ⌜ count ≤ 65535 ⌝ }
     requires { ⌜ 65536 ≤ length (now places) ⌝ }
 {
@@ -120,7 +120,7 @@ pub fn changed(places: &mut [u16], count: usize)
     read_pairs(&mut bytes, places, count);
 }
 
-pub fn filled(places: &mut [u16], count: usize, first: usize, step: usize) -> usize
+fn filled(places: &mut [u16], count: usize, first: usize, step: usize) -> usize
     requires { ⌜ count ≤ length (now places) ⌝ }
     requires { ⌜ first ≤ 65535 ⌝ }
     requires { ⌜ step ≤ 65535 ⌝ }
@@ -134,4 +134,23 @@ pub fn filled(places: &mut [u16], count: usize, first: usize, step: usize) -> us
         i += 1;
     }
     count
+}
+
+// A case that gives the placements: how many there are.
+pub fn give(places: &mut [u16], before: usize, h: Head) -> usize
+    requires { ⌜ 65536 ≤ length (now places) ⌝ }
+    requires { ⌜ before ≤ length (now places) ⌝ }
+    requires { ⌜ h .count ≤ 65535 ⌝ }
+    requires { ⌜ h .first ≤ 65535 ⌝ }
+    requires { ⌜ h .step ≤ 65535 ⌝ }
+    ensures { λ r. ⌜ r ≤ length (now (places .entry)) ⌝ }
+{
+    if h.kind == 2 {
+        return listed(places, h.count);
+    }
+    if h.kind == 3 {
+        return filled(places, h.count, h.first, h.step);
+    }
+    changed(places, h.count);
+    before
 }

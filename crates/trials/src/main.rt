@@ -23,9 +23,7 @@ mod input;
 mod text;
 
 use crate::input::Head;
-use crate::input::changed;
-use crate::input::filled;
-use crate::input::listed;
+use crate::input::give;
 use crate::input::next_bytes;
 use crate::input::next_head;
 use crate::input::next_number;
@@ -43,6 +41,7 @@ use hanging::Hung;
 use pen::strokes::Stroke;
 use table::writing::copy;
 use wide::Wide;
+ghost use mathlib.Core.Path.{_≡_};
 ghost use Prim.Native.Nat.{_<_, _≤_};
 ghost use lib.ListN.{length};
 
@@ -56,6 +55,8 @@ pub struct State {
 
 fn put_plan(out: &mut [u8], used: usize, plan: Plan) -> usize
     requires { ⌜ 0 < length (now out) ⌝ }
+    requires { ⌜ used ≤ length (now out) ⌝ }
+    ensures { λ r. ⌜ r ≤ length (now (out .entry)) ⌝ }
 {
     let noded = put_field(out, used, number(plan.nodes));
     let widened = put_field(out, noded, number(plan.width));
@@ -65,6 +66,8 @@ fn put_plan(out: &mut [u8], used: usize, plan: Plan) -> usize
 
 fn put_drawn(out: &mut [u8], used: usize, drawn: Drawn) -> usize
     requires { ⌜ 0 < length (now out) ⌝ }
+    requires { ⌜ used ≤ length (now out) ⌝ }
+    ensures { λ r. ⌜ r ≤ length (now (out .entry)) ⌝ }
 {
     let named = put_all(out, used, b"draw");
     let at = put_field(out, named, number(drawn.refusal));
@@ -73,6 +76,8 @@ fn put_drawn(out: &mut [u8], used: usize, drawn: Drawn) -> usize
 
 fn run_draw(table: &[u8], places: &mut [u16], out: &mut [u8], used: usize) -> usize
     requires { ⌜ 0 < length (now out) ⌝ }
+    requires { ⌜ used ≤ length (now out) ⌝ }
+    ensures { λ r. ⌜ r ≤ length (now (out .entry)) ⌝ }
 {
     let drawn = drawing::draw(table, places);
     let at = put_drawn(out, used, drawn);
@@ -81,6 +86,8 @@ fn run_draw(table: &[u8], places: &mut [u16], out: &mut [u8], used: usize) -> us
 
 fn put_wide(out: &mut [u8], used: usize, answer: Wide) -> usize
     requires { ⌜ 0 < length (now out) ⌝ }
+    requires { ⌜ used ≤ length (now out) ⌝ }
+    ensures { λ r. ⌜ r ≤ length (now (out .entry)) ⌝ }
 {
     let named = put_all(out, used, b"wide");
     match answer {
@@ -91,6 +98,8 @@ fn put_wide(out: &mut [u8], used: usize, answer: Wide) -> usize
 
 fn run_wide(table: &[u8], places: &mut [u16], out: &mut [u8], used: usize) -> usize
     requires { ⌜ 0 < length (now out) ⌝ }
+    requires { ⌜ used ≤ length (now out) ⌝ }
+    ensures { λ r. ⌜ r ≤ length (now (out .entry)) ⌝ }
 {
     let answer = wide::draw_wide(table, places);
     let at = put_wide(out, used, answer);
@@ -99,15 +108,19 @@ fn run_wide(table: &[u8], places: &mut [u16], out: &mut [u8], used: usize) -> us
 
 fn run_check(table: &[u8], places: &[u16], out: &mut [u8], used: usize) -> usize
     requires { ⌜ 0 < length (now out) ⌝ }
+    requires { ⌜ used ≤ length (now out) ⌝ }
+    ensures { λ r. ⌜ r ≤ length (now (out .entry)) ⌝ }
 {
     put_line(out, used, b"check", number(verdict::check(table, places)))
 }
 
 fn run_width(h: Head, out: &mut [u8], used: usize) -> usize
     requires { ⌜ 0 < length (now out) ⌝ }
+    requires { ⌜ used ≤ length (now out) ⌝ }
     requires { ⌜ h .count ≤ 65535 ⌝ }
     requires { ⌜ h .first ≤ 65535 ⌝ }
     requires { ⌜ h .step ≤ 65535 ⌝ }
+    ensures { λ r. ⌜ r ≤ length (now (out .entry)) ⌝ }
 {
     let n = h.count as u64 + 65536 * (h.first as u64) + 4294967296 * (h.step as u64);
     put_line(out, used, b"width", width::allowed_width(n))
@@ -115,6 +128,8 @@ fn run_width(h: Head, out: &mut [u8], used: usize) -> usize
 
 fn put_stroke(out: &mut [u8], used: usize, answer: Stroke) -> usize
     requires { ⌜ 0 < length (now out) ⌝ }
+    requires { ⌜ used ≤ length (now out) ⌝ }
+    ensures { λ r. ⌜ r ≤ length (now (out .entry)) ⌝ }
 {
     match answer {
         Stroke::Lift(point) => put_point(out, used, b"stroke lift", point),
@@ -126,6 +141,8 @@ fn put_stroke(out: &mut [u8], used: usize, answer: Stroke) -> usize
 
 fn run_stroke(table: &[u8], places: &[u16], pitch: u8, out: &mut [u8], used: usize) -> usize
     requires { ⌜ 0 < length (now out) ⌝ }
+    requires { ⌜ used ≤ length (now out) ⌝ }
+    ensures { λ r. ⌜ r ≤ length (now (out .entry)) ⌝ }
 {
     let answer = pen::stroke(table, places, pitch, next_number());
     put_stroke(out, used, answer)
@@ -134,7 +151,9 @@ fn run_stroke(table: &[u8], places: &[u16], pitch: u8, out: &mut [u8], used: usi
 // A name, as it stands.
 fn run_name(count: usize, out: &mut [u8], used: usize) -> usize
     requires { ⌜ 0 < length (now out) ⌝ }
+    requires { ⌜ used ≤ length (now out) ⌝ }
     requires { ⌜ count ≤ 255 ⌝ }
+    ensures { λ r. ⌜ r ≤ length (now (out .entry)) ⌝ }
 {
     let mut name = [0u8; 256];
     let n = next_bytes(&mut name, count);
@@ -145,6 +164,8 @@ fn run_name(count: usize, out: &mut [u8], used: usize) -> usize
 // The record that was hung, or the refusal.
 fn put_hung(out: &mut [u8], used: usize, answer: Hung) -> usize
     requires { ⌜ 0 < length (now out) ⌝ }
+    requires { ⌜ used ≤ length (now out) ⌝ }
+    ensures { λ r. ⌜ r ≤ length (now (out .entry)) ⌝ }
 {
     match answer {
         Hung::Leaf(record) => put_line(out, used, b"hang", number(record)),
@@ -157,8 +178,10 @@ fn run_hang(table: &mut [u8], bytes: usize, out: &mut [u8], used: usize, h: Head
     requires { ⌜ 65536 ≤ length (now table) ⌝ }
     requires { ⌜ bytes ≤ 65536 ⌝ }
     requires { ⌜ 0 < length (now out) ⌝ }
+    requires { ⌜ used ≤ length (now out) ⌝ }
     requires { ⌜ h .count ≤ 65535 ⌝ }
     requires { ⌜ h .step ≤ 65535 ⌝ }
+    ensures { λ r. ⌜ r ≤ length (now (out .entry)) ⌝ }
 {
     let mut before = [0u8; 65536];
     copy(&table[..65536], &mut before);
@@ -177,6 +200,8 @@ fn run_cut(table: &mut [u8], bytes: usize, out: &mut [u8], used: usize, node: u1
     requires { ⌜ 65536 ≤ length (now table) ⌝ }
     requires { ⌜ bytes ≤ 65536 ⌝ }
     requires { ⌜ 0 < length (now out) ⌝ }
+    requires { ⌜ used ≤ length (now out) ⌝ }
+    ensures { λ r. ⌜ r ≤ length (now (out .entry)) ⌝ }
 {
     let mut before = [0u8; 65536];
     copy(&table[..65536], &mut before);
@@ -190,8 +215,10 @@ fn change(table: &mut [u8], bytes: usize, out: &mut [u8], used: usize, h: Head) 
     requires { ⌜ 65536 ≤ length (now table) ⌝ }
     requires { ⌜ bytes ≤ 65536 ⌝ }
     requires { ⌜ 0 < length (now out) ⌝ }
+    requires { ⌜ used ≤ length (now out) ⌝ }
     requires { ⌜ h .count ≤ 65535 ⌝ }
     requires { ⌜ h .step ≤ 65535 ⌝ }
+    ensures { λ r. ⌜ r ≤ length (now (out .entry)) ⌝ }
 {
     if h.kind == 11 {
         return run_hang(table, bytes, out, used, h);
@@ -202,9 +229,11 @@ fn change(table: &mut [u8], bytes: usize, out: &mut [u8], used: usize, h: Head) 
 // A case that leaves the table as it is.
 fn ask(table: &[u8], places: &mut [u16], out: &mut [u8], used: usize, h: Head) -> usize
     requires { ⌜ 0 < length (now out) ⌝ }
+    requires { ⌜ used ≤ length (now out) ⌝ }
     requires { ⌜ h .count ≤ 65535 ⌝ }
     requires { ⌜ h .first ≤ 65535 ⌝ }
     requires { ⌜ h .step ≤ 65535 ⌝ }
+    ensures { λ r. ⌜ r ≤ length (now (out .entry)) ⌝ }
 {
     if h.kind == 5 {
         return run_draw(table, places, out, used);
@@ -224,25 +253,6 @@ fn ask(table: &[u8], places: &mut [u16], out: &mut [u8], used: usize, h: Head) -
     run_width(h, out, used)
 }
 
-// A case that gives the placements: how many there are.
-fn give(places: &mut [u16], before: usize, h: Head) -> usize
-    requires { ⌜ 65536 ≤ length (now places) ⌝ }
-    requires { ⌜ before ≤ length (now places) ⌝ }
-    requires { ⌜ h .count ≤ 65535 ⌝ }
-    requires { ⌜ h .first ≤ 65535 ⌝ }
-    requires { ⌜ h .step ≤ 65535 ⌝ }
-    ensures { λ r. ⌜ r ≤ length (now (places .entry)) ⌝ }
-{
-    if h.kind == 2 {
-        return listed(places, h.count);
-    }
-    if h.kind == 3 {
-        return filled(places, h.count, h.first, h.step);
-    }
-    changed(places, h.count);
-    before
-}
-
 // A case that gives the table or the placements.
 fn take(table: &mut [u8], places: &mut [u16], s: State, h: Head) -> State
     requires { ⌜ 65536 ≤ length (now table) ⌝ }
@@ -254,6 +264,7 @@ fn take(table: &mut [u8], places: &mut [u16], s: State, h: Head) -> State
     requires { ⌜ h .step ≤ 65535 ⌝ }
     ensures { λ r. ⌜ r .bytes ≤ 65536 ⌝ }
     ensures { λ r. ⌜ r .places ≤ length (now (places .entry)) ⌝ }
+    ensures { λ r. ⌜ r .used ≡ s .used ⌝ }
 {
     if h.kind == 1 {
         return State {
@@ -276,10 +287,12 @@ fn answer(table: &mut [u8], places: &mut [u16], out: &mut [u8], s: State, h: Hea
     requires { ⌜ 65536 ≤ length (now table) ⌝ }
     requires { ⌜ 0 < length (now out) ⌝ }
     requires { ⌜ s .bytes ≤ 65536 ⌝ }
+    requires { ⌜ s .used ≤ length (now out) ⌝ }
     requires { ⌜ s .places ≤ length (now places) ⌝ }
     requires { ⌜ h .count ≤ 65535 ⌝ }
     requires { ⌜ h .first ≤ 65535 ⌝ }
     requires { ⌜ h .step ≤ 65535 ⌝ }
+    ensures { λ r. ⌜ r ≤ length (now (out .entry)) ⌝ }
 {
     let n = s.bytes;
     let m = s.places;
@@ -295,9 +308,11 @@ fn step(table: &mut [u8], places: &mut [u16], out: &mut [u8], s: State) -> State
     requires { ⌜ 65536 ≤ length (now places) ⌝ }
     requires { ⌜ 0 < length (now out) ⌝ }
     requires { ⌜ s .bytes ≤ 65536 ⌝ }
+    requires { ⌜ s .used ≤ length (now out) ⌝ }
     requires { ⌜ s .places ≤ length (now places) ⌝ }
     ensures { λ r. ⌜ r .bytes ≤ 65536 ⌝ }
     ensures { λ r. ⌜ r .places ≤ length (now (places .entry)) ⌝ }
+    ensures { λ r. ⌜ r .used ≤ length (now (out .entry)) ⌝ }
 {
     let h = next_head();
     if h.kind == 0 || 12 < h.kind {
@@ -336,7 +351,8 @@ fn run(table: &mut [u8], places: &mut [u16], out: &mut [u8])
         s = step(table, places, out, s);
         turns -= 1;
     }
-    text::flush(out, s.used);
+    let n = s.used;
+    io::write_all(1, &out[..n]);
 }
 
 fn main() {

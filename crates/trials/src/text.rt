@@ -24,6 +24,8 @@ fn room(out: &[u8], used: usize) -> usize
 
 pub fn put(out: &mut [u8], used: usize, byte: u8) -> usize
     requires { ⌜ 0 < length (now out) ⌝ }
+    requires { ⌜ used ≤ length (now out) ⌝ }
+    ensures { λ r. ⌜ r ≤ length (now (out .entry)) ⌝ }
 {
     let at = room(out, used);
     out[at] = byte;
@@ -32,6 +34,8 @@ pub fn put(out: &mut [u8], used: usize, byte: u8) -> usize
 
 pub fn put_all(out: &mut [u8], used: usize, bytes: &[u8]) -> usize
     requires { ⌜ 0 < length (now out) ⌝ }
+    requires { ⌜ used ≤ length (now out) ⌝ }
+    ensures { λ r. ⌜ r ≤ length (now (out .entry)) ⌝ }
 {
     let mut at = used;
     let mut i = 0;
@@ -45,6 +49,8 @@ pub fn put_all(out: &mut [u8], used: usize, bytes: &[u8]) -> usize
 // A space and a number.
 pub fn put_field(out: &mut [u8], used: usize, n: u64) -> usize
     requires { ⌜ 0 < length (now out) ⌝ }
+    requires { ⌜ used ≤ length (now out) ⌝ }
+    ensures { λ r. ⌜ r ≤ length (now (out .entry)) ⌝ }
 {
     let at = put(out, used, b' ');
     let mut digits = [0u8; 20];
@@ -55,6 +61,8 @@ pub fn put_field(out: &mut [u8], used: usize, n: u64) -> usize
 // A word, a number and the end of the line.
 pub fn put_line(out: &mut [u8], used: usize, name: &[u8], n: u64) -> usize
     requires { ⌜ 0 < length (now out) ⌝ }
+    requires { ⌜ used ≤ length (now out) ⌝ }
+    ensures { λ r. ⌜ r ≤ length (now (out .entry)) ⌝ }
 {
     let named = put_all(out, used, name);
     let at = put_field(out, named, n);
@@ -72,6 +80,8 @@ fn bits(x: f64) -> u64 {
 // A word, the bits of a pen point and the end of the line.
 pub fn put_point(out: &mut [u8], used: usize, name: &[u8], point: PenPoint) -> usize
     requires { ⌜ 0 < length (now out) ⌝ }
+    requires { ⌜ used ≤ length (now out) ⌝ }
+    ensures { λ r. ⌜ r ≤ length (now (out .entry)) ⌝ }
 {
     let named = put_all(out, used, name);
     let at = put_field(out, named, bits(point.x));
@@ -81,6 +91,8 @@ pub fn put_point(out: &mut [u8], used: usize, name: &[u8], point: PenPoint) -> u
 
 fn put_numbers(out: &mut [u8], used: usize, numbers: &[u16]) -> usize
     requires { ⌜ 0 < length (now out) ⌝ }
+    requires { ⌜ used ≤ length (now out) ⌝ }
+    ensures { λ r. ⌜ r ≤ length (now (out .entry)) ⌝ }
 {
     let mut at = put_all(out, used, b"places");
     let mut i = 0;
@@ -111,6 +123,8 @@ fn sum_of(numbers: &[u16]) -> u64 {
 // The placements: all of them, or of many a sum.
 pub fn put_places(out: &mut [u8], used: usize, numbers: &[u16]) -> usize
     requires { ⌜ 0 < length (now out) ⌝ }
+    requires { ⌜ used ≤ length (now out) ⌝ }
+    ensures { λ r. ⌜ r ≤ length (now (out .entry)) ⌝ }
 {
     if 600 < numbers.len() {
         return put_line(out, used, b"sum", sum_of(numbers));
@@ -132,7 +146,9 @@ fn differs(before: &[u8], table: &[u8], at: usize) -> bool
 // Two words that follow each other.
 fn put_pair(out: &mut [u8], used: usize, table: &[u8], at: usize) -> usize
     requires { ⌜ 0 < length (now out) ⌝ }
+    requires { ⌜ used ≤ length (now out) ⌝ }
     requires { ⌜ at + 3 < length (now table) ⌝ }
+    ensures { λ r. ⌜ r ≤ length (now (out .entry)) ⌝ }
 {
     let first = put_field(out, used, word(table, at) as u64);
     put_field(out, first, word(table, at + 2) as u64)
@@ -141,7 +157,9 @@ fn put_pair(out: &mut [u8], used: usize, table: &[u8], at: usize) -> usize
 // The number of a record and its four words.
 fn put_record(out: &mut [u8], used: usize, table: &[u8], at: usize) -> usize
     requires { ⌜ 0 < length (now out) ⌝ }
+    requires { ⌜ used ≤ length (now out) ⌝ }
     requires { ⌜ at + 7 < length (now table) ⌝ }
+    ensures { λ r. ⌜ r ≤ length (now (out .entry)) ⌝ }
 {
     let named = put_all(out, used, b"record");
     let numbered = put_field(out, named, (at / 8) as u64);
@@ -153,8 +171,10 @@ fn put_record(out: &mut [u8], used: usize, table: &[u8], at: usize) -> usize
 // A record, if it differs.
 fn put_if_changed(out: &mut [u8], used: usize, before: &[u8], table: &[u8], at: usize) -> usize
     requires { ⌜ 0 < length (now out) ⌝ }
+    requires { ⌜ used ≤ length (now out) ⌝ }
     requires { ⌜ at + 7 < length (now before) ⌝ }
     requires { ⌜ at + 7 < length (now table) ⌝ }
+    ensures { λ r. ⌜ r ≤ length (now (out .entry)) ⌝ }
 {
     if differs(before, table, at) {
         return put_record(out, used, table, at);
@@ -165,9 +185,11 @@ fn put_if_changed(out: &mut [u8], used: usize, before: &[u8], table: &[u8], at: 
 // The records that differ, of those that begin within so many bytes; both buffers go on behind them.
 pub fn put_changed(out: &mut [u8], used: usize, before: &[u8], table: &[u8], bytes: usize) -> usize
     requires { ⌜ 0 < length (now out) ⌝ }
+    requires { ⌜ used ≤ length (now out) ⌝ }
     requires { ⌜ 65536 ≤ length (now before) ⌝ }
     requires { ⌜ 65536 ≤ length (now table) ⌝ }
     requires { ⌜ bytes ≤ 65536 ⌝ }
+    ensures { λ r. ⌜ r ≤ length (now (out .entry)) ⌝ }
 {
     let records = (bytes + 7) / 8;
     let mut at = used;
@@ -177,12 +199,4 @@ pub fn put_changed(out: &mut [u8], used: usize, before: &[u8], table: &[u8], byt
         k += 1;
     }
     at
-}
-
-pub fn flush(out: &[u8], used: usize) {
-    if used < out.len() {
-        io::write_all(1, &out[..used]);
-    } else {
-        io::write_all(1, out);
-    }
 }

@@ -1,13 +1,14 @@
--- `run` is safe and ends: the buffers keep their lengths, and the turns fall.
+-- `run` is safe and ends: the buffers keep their lengths, no more waits than they hold, and the turns fall.
 use borrow.Author.Needs.{needs}
 use Prim.Native.Nat.{_≤_}
 use mathlib.Core.Path.{_≡_}
-use lib.ListN.{length}
+use native.Mathlib.Omega.{arith}
+use lib.ListN.{length, length-take}
 use Rattle.trials.proofs.run.Statement.{statement}
 use Rattle.trials.proofs.run.Tie as tie
 
 abbrev Inv-loop : tie.InvT-loop
-Inv-loop table₀ places₀ out₀ s₀ turns₀ table places out s turns = (length table ≡ length table₀) × ((length places ≡ length places₀) × ((length out ≡ length out₀) × ((s .bytes ≤ 65536) × (s .places ≤ length places))))
+Inv-loop table₀ places₀ out₀ s₀ turns₀ table places out s turns = (length table ≡ length table₀) × ((length places ≡ length places₀) × ((length out ≡ length out₀) × ((s .bytes ≤ 65536) × ((s .places ≤ length places) × (s .used ≤ length out)))))
 
 abbrev μ-loop : tie.MeasureT-loop
 μ-loop table₀ places₀ out₀ s₀ turns₀ table places out s turns = turns
@@ -27,8 +28,14 @@ loop-less c = search needs
 loop-again : tie.Need-loop-again Inv-loop μ-loop
 loop-again c = search needs
 
-flush-requires : tie.Need-flush-requires Inv-loop μ-loop
-flush-requires c κs = search needs
+slice-reshare-prefix-write-all : tie.Need-slice-reshare-prefix-write-all Inv-loop μ-loop
+slice-reshare-prefix-write-all c = search needs
+
+slice-aggregate-write-all : tie.Need-slice-aggregate-write-all Inv-loop μ-loop
+slice-aggregate-write-all c = simp length-take (omega arith)
+
+write-all-requires : tie.Need-write-all-requires Inv-loop μ-loop
+write-all-requires c κs = search needs
 
 same-length : tie.Need-same-length Inv-loop μ-loop
 same-length c = search needs
@@ -53,7 +60,9 @@ run-spec =
     sub-turns
     loop-less
     loop-again
-    flush-requires
+    slice-reshare-prefix-write-all
+    slice-aggregate-write-all
+    write-all-requires
     same-length
     same-length-2
     same-length-3

@@ -1,4 +1,4 @@
--- `put_changed` is safe and ends: the buffer keeps its length, and a record that begins within the table ends within 65,536 bytes.
+-- `put_changed` is safe and ends: the buffer keeps its length, no more of it waits than it holds, and a record that begins within the table ends within 65,536 bytes.
 use borrow.Author.Needs.{needs}
 use Prim.Native.Nat.{_-_, _≤_}
 use mathlib.Core.Path.{_≡_}
@@ -7,7 +7,7 @@ use Rattle.trials.proofs.text.put_changed.Statement.{statement}
 use Rattle.trials.proofs.text.put_changed.Tie as tie
 
 abbrev Inv-loop : tie.InvT-loop
-Inv-loop out₀ used before table bytes records at₀ k₀ out at k = (length out ≡ length out₀) × (records ≤ 8192)
+Inv-loop out₀ used before table bytes records at₀ k₀ out at k = (length out ≡ length out₀) × ((at ≤ length out) × (records ≤ 8192))
 
 abbrev μ-loop : tie.MeasureT-loop
 μ-loop out₀ used before table bytes records at₀ k₀ out at k = records - k

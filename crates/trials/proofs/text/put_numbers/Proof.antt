@@ -1,13 +1,13 @@
--- `put_numbers` is safe and ends: the buffer keeps its length.
+-- `put_numbers` is safe and ends: the buffer keeps its length, and no more of it waits than it holds.
 use borrow.Author.Needs.{needs}
-use Prim.Native.Nat.{_-_}
+use Prim.Native.Nat.{_-_, _≤_}
 use mathlib.Core.Path.{_≡_}
 use lib.ListN.{length}
 use Rattle.trials.proofs.text.put_numbers.Statement.{statement}
 use Rattle.trials.proofs.text.put_numbers.Tie as tie
 
 abbrev Inv-loop : tie.InvT-loop
-Inv-loop out₀ used numbers at₀ i₀ out at i = length out ≡ length out₀
+Inv-loop out₀ used numbers at₀ i₀ out at i = (length out ≡ length out₀) × (at ≤ length out)
 
 abbrev μ-loop : tie.MeasureT-loop
 μ-loop out₀ used numbers at₀ i₀ out at i = length numbers - i
