@@ -1,4 +1,4 @@
-/* Hangs a root with two leaves in an empty tree, draws it, and cuts a leaf off. See examples/check. */
+/* Hangs a root with two leaves in an empty tree, draws it, and cuts a leaf off; then holds a place and hangs there what was held. See examples/check. */
 #include <stdio.h>
 #include "bt.h"
 
@@ -18,6 +18,18 @@ static void hang(uint16_t parent, uint8_t side, uint16_t tag)
         printf("hang at %u, side %u: refused %u\n", parent, side, bt_refusal(hung));
     else
         printf("hang at %u, side %u: record %u\n", parent, side, bt_leaf(hung));
+}
+
+static uint16_t hold(uint16_t parent, uint8_t side)
+{
+    uint32_t held = bt_hold(table, sizeof table, parent, side);
+    printf("hold at %u, side %u: record %u\n", parent, side, bt_leaf(held));
+    return bt_leaf(held);
+}
+
+static void hang_held(uint16_t parent, uint8_t side, uint16_t tag, uint16_t record)
+{
+    printf("hang record %u at %u, side %u: %u\n", record, parent, side, (unsigned)bt_hang_held(table, sizeof table, parent, side, tag, record));
 }
 
 static void cut(uint16_t node)
@@ -43,6 +55,12 @@ int main(void)
     cut(2);
     draw();
     hang(3, 1, 105);
+    draw();
+    uint16_t held = hold(1, 0);
+    cut(2);
+    hang_held(1, 0, 106, held); /* record 2 would now be used */
+    held = hold(1, 0);
+    hang_held(1, 0, 106, held);
     draw();
     return 0;
 }

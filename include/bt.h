@@ -1,4 +1,5 @@
-/* Drawing an ordered binary tree on a grid, checking such drawings, plotting them by a pen, and hanging and cutting leaves in the table that holds the tree.
+/* Drawing an ordered binary tree on a grid, checking such drawings, plotting them by a pen, and hanging leaves, at once or in two halves, and cutting them in the
+ * table that holds the tree.
  *
  * Link target/staticlib/libbt.a, which `rt staticlib bt` makes; of the C library it wants memcpy and memset alone. All functions end, allocate nothing, keep nothing between
  * calls, and may be called from several threads at once. Their stack was measured below 110 KB.
@@ -20,6 +21,7 @@
  *    7  the pitch is 0
  *    9  the node or the side cannot be had
  *   10  no record is free
+ *   11  another record would now be used
  *
  * A pointer is never NULL, not even with the length 0; placements are aligned as uint16_t is, a point as double is, and no two of table, placements and point
  * overlap. */
@@ -66,12 +68,20 @@ uint32_t bt_stroke(const uint8_t *table, size_t table_len, const uint16_t *place
  * is above 1, for parent 0 if the tree is not empty, for another parent if it is not on the chain or has a child on that side; then with 10. */
 uint32_t bt_hang(uint8_t *table, size_t table_len, uint16_t parent, uint8_t side, uint16_t tag);
 
+/* Holds a place, the first half of bt_hang: answers what bt_hang would answer with the same parent and side, the record that would be used or a refusal, and writes
+ * nothing. Nothing is set aside: other calls may use the record before the second half comes. Refuses as bt_hang does. */
+uint32_t bt_hold(const uint8_t *table, size_t table_len, uint16_t parent, uint8_t side);
+
+/* Hangs what was held, the second half of bt_hang: if bt_hold would still name the given record, writes what bt_hang writes and answers 0; so the two, one after the
+ * other, do what bt_hang does. Refuses as bt_hang does, then with 11. */
+uint32_t bt_hang_held(uint8_t *table, size_t table_len, uint16_t parent, uint8_t side, uint16_t tag, uint16_t record);
+
 /* Cuts a leaf off: takes it out of the chain and out of the link that names it, and puts it first among the free records, its other words 0. Cutting the only node leaves
  * the empty tree, and cutting a leaf just hung leaves every byte as it was before. Answers 0, or a refusal. Refuses
  * with 9 if the record is not on the chain or has a child. */
 uint32_t bt_cut(uint8_t *table, size_t table_len, uint16_t node);
 
-/* The parts of what bt_draw and bt_draw_wide answer; the first is in what bt_stroke and bt_hang answer too. */
+/* The parts of what bt_draw and bt_draw_wide answer; the first is in what bt_stroke, bt_hang and bt_hold answer too. */
 static inline unsigned bt_refusal(uint64_t drawn) { return drawn & 0xffff; }
 static inline unsigned bt_nodes(uint64_t drawn) { return drawn >> 16 & 0xffff; }
 static inline unsigned bt_width(uint64_t drawn) { return drawn >> 32 & 0xffff; }
@@ -81,7 +91,7 @@ static inline unsigned bt_height(uint64_t drawn) { return drawn >> 48 & 0xffff; 
 enum { BT_PEN_DONE, BT_PEN_LIFT, BT_PEN_DRAW };
 static inline unsigned bt_pen(uint32_t stroke) { return stroke >> 16; }
 
-/* The record, in what bt_hang answers if it is no refusal. */
+/* The record, in what bt_hang or bt_hold answers if it is no refusal. */
 static inline unsigned bt_leaf(uint32_t hung) { return hung >> 16; }
 
 #ifdef __cplusplus

@@ -1,4 +1,4 @@
-// Times draw, wide draw, check, strokes, hang, cut and the whole program beside the Rust reference, and wide draw beside draw, in one run.
+// Times draw, wide draw, check, strokes, hang, cut, the halves of a hang and the whole program beside the Rust reference, and wide draw beside draw, in one run.
 //   bench PLAN REFERENCE FOLDER: the two programs, and a folder for the tables
 mod oracle;
 use oracle::reference::cases::{timed_room, timed_sheet, timed_table, SHAPES, SHEETS};
@@ -61,7 +61,7 @@ fn strokes(theirs: &mut Reference, table: &[u8], places: &[u16]) -> String {
     row("all strokes", (a, b)) + &row("mean", (a / count as f64, b / count as f64)) + &row("last", timed(count - 1))
 }
 
-/// The times of a hang, and of the cut of what was hung; each with a copy of the table, on which it is done.
+/// The times of a hang, of the cut of what was hung, and of the halves of that hang; each but the first half with a copy of the table, on which it is done.
 fn changes(theirs: &mut Reference, n: usize, free: usize) -> String {
     let (before, parent, side) = timed_room(n, free);
     let (mut a, mut b) = (before.clone(), before.clone());
@@ -70,13 +70,22 @@ fn changes(theirs: &mut Reference, n: usize, free: usize) -> String {
     let (after, record) = (a.clone(), (hung >> 16) as u16);
     assert_eq!((ours::cut(&mut a, record), theirs.cut(&mut b, record)), (0, 0));
     assert!(a == before && b == before);
+    assert_eq!((ours::hold(&a, parent, side), theirs.hold(&b, parent, side)), (hung, hung));
+    assert_eq!((ours::hang_held(&mut a, parent, side, 7, record), theirs.hang_held(&mut b, parent, side, 7, record)), (0, 0));
+    assert!(a == after && b == after);
     let hangs = two(
         || { a.copy_from_slice(&before); black_box(ours::hang(black_box(&mut a), parent, side, 7)); },
         || { b.copy_from_slice(&before); black_box(theirs.hang(black_box(&mut b), parent, side, 7)); });
     let cuts = two(
         || { a.copy_from_slice(&after); black_box(ours::cut(black_box(&mut a), record)); },
         || { b.copy_from_slice(&after); black_box(theirs.cut(black_box(&mut b), record)); });
-    row("hang", hangs) + &row("cut", cuts)
+    let holds = two(
+        || { black_box(ours::hold(black_box(&before), parent, side)); },
+        || { black_box(theirs.hold(black_box(&before), parent, side)); });
+    let helds = two(
+        || { a.copy_from_slice(&before); black_box(ours::hang_held(black_box(&mut a), parent, side, 7, record)); },
+        || { b.copy_from_slice(&before); black_box(theirs.hang_held(black_box(&mut b), parent, side, 7, record)); });
+    row("hang", hangs) + &row("cut", cuts) + &row("hold", holds) + &row("hang held", helds)
 }
 
 /// A wide draw of 4,096 nodes may take so many times as long as our plain draw.
@@ -136,7 +145,7 @@ fn main() {
             println!("{n:>4} {shape:<12}{}", strokes(&mut theirs, &table, &places));
         }
     }
-    println!("hanging and cutting at the end of the chain, in tables of so many records beside the head");
+    println!("hanging, cutting and hanging by halves at the end of the chain, in tables of so many records beside the head");
     for n in [64, 512, 4096] {
         for (what, free) in [("half of them free", n / 2), ("one of them free", 1)] {
             println!("{n:>4} {what:<18}{}", changes(&mut theirs, n, free));

@@ -16,13 +16,13 @@ struct Run {
     calls: u64,
     shared: u64,
     differences: u64,
-    answers: [[u64; 32]; 11],
+    answers: [[u64; 32]; CALLS.len()],
 }
 
 /// The calls whose answers are counted; checks of sheets with many level lines, of every small sheet, and calls on every small table, by themselves.
-const CALLS: [&str; 11] = [
-    "draw", "wide", "check", "stroke", "check of level lines", "check of every small sheet", "hang", "cut", "draw of every small table",
-    "hang of every small table", "cut of every small table",
+const CALLS: [&str; 15] = [
+    "draw", "wide", "check", "stroke", "check of level lines", "check of every small sheet", "hang", "cut", "hold", "hang held", "draw of every small table",
+    "hang of every small table", "cut of every small table", "hold of every small table", "hang held of every small table",
 ];
 const DRAW: usize = 0;
 const WIDE: usize = 1;
@@ -32,10 +32,12 @@ const LEVEL: usize = 4;
 const EVERY: usize = 5;
 const HANG: usize = 6;
 const CUT: usize = 7;
-const SMALL_DRAW: usize = 8;
+const HOLD: usize = 8;
+const HELD: usize = 9;
+const SMALL_DRAW: usize = 10;
 
-/// A hang or a cut of every small table is counted so many places behind HANG or CUT.
-const SMALL: usize = 3;
+/// A hang, a cut or a half of a hang of every small table is counted so many places behind HANG, CUT, HOLD or HELD.
+const SMALL: usize = 5;
 
 /// Where the lifts and the draws of strokes are counted; all other answers are counted by their number.
 const LIFTS: usize = 30;
@@ -43,6 +45,11 @@ const DRAWS: usize = 31;
 
 fn bytes_of(places: &[u16]) -> Vec<u8> {
     places.iter().flat_map(|x| x.to_le_bytes()).collect()
+}
+
+/// What the second half of a hang must answer, given a record, where the first half would now answer so.
+fn second_half(first: u32, record: u16) -> u32 {
+    if first & 0xffff != 0 { first & 0xffff } else if first >> 16 == record as u32 { 0 } else { 11 }
 }
 
 impl Run {
@@ -80,11 +87,11 @@ impl Run {
     /// A call has been answered: the same by both, or not.
     fn judge(&mut self, same: bool, what: String, table: &[u8], before: &[u16]) {
         self.calls += 1;
-        self.hold(same, what, table, before);
+        self.must(same, what, table, before);
     }
 
     /// What must be, of calls that have been counted.
-    fn hold(&mut self, holds: bool, what: String, table: &[u8], before: &[u16]) {
+    fn must(&mut self, holds: bool, what: String, table: &[u8], before: &[u16]) {
         if holds {
             return;
         }
@@ -96,8 +103,8 @@ impl Run {
         println!("DIFFERENCE: {what}; saved as {stem}.*");
     }
 
-    /// Draws, plain or wide.
-    fn draw(&mut self, call: usize, table: &[u8], places: &mut [u16]) {
+    /// Draws, plain or wide. The refusal.
+    fn draw(&mut self, call: usize, table: &[u8], places: &mut [u16]) -> u64 {
         let before = places.to_vec();
         let mut theirs = before.clone();
         let (a, b) = if call == WIDE {
@@ -109,6 +116,7 @@ impl Run {
         self.to_share(if call == WIDE { b'w' } else { b'd' }, table, &before, a, &bytes_of(places));
         let told = format!("{}: ours {a:#x}, reference {b:#x}, placements {}", CALLS[call], if *places == theirs { "equal" } else { "differ" });
         self.judge(a == b && *places == theirs, told, table, &before);
+        b & 0xffff
     }
 
     /// A wide drawing with columns and rows exchanged is good for the table with left and right exchanged.
@@ -150,7 +158,16 @@ impl Run {
         }
     }
 
-    /// A hang or a cut, counted so many places behind; every byte of the table afterwards is compared. For the other reference: what is asked, and that table.
+    /// The first half of a hang, counted so many places behind. For the other reference: what is asked.
+    fn hold(&mut self, behind: usize, table: &[u8], parent: u16, side: u8) -> u32 {
+        let (a, b) = (ours::hold(table, parent, side), self.reference.hold(table, parent, side));
+        self.answers[HOLD + behind][(b & 31) as usize] += 1;
+        self.to_share(b'o', table, &[], a as u64, &[parent.to_le_bytes(), [side, 0]].concat());
+        self.judge(a == b, format!("hold of parent {parent}, side {side}: ours {a:#x}, reference {b:#x}"), table, &[]);
+        a
+    }
+
+    /// A call that changes a table, counted so many places behind; every byte of the table afterwards is compared. For the other reference: what is asked, and that table.
     fn change(&mut self, behind: usize, table: &mut [u8], change: Change) -> u32 {
         let before = table.to_vec();
         let mut theirs = before.clone();
@@ -160,6 +177,10 @@ impl Run {
                 (HANG, b'h', asked, ours::hang(table, parent, side, tag), self.reference.hang(&mut theirs, parent, side, tag))
             }
             Change::Cut(node) => (CUT, b'k', node.to_le_bytes().to_vec(), ours::cut(table, node), self.reference.cut(&mut theirs, node)),
+            Change::Held(parent, side, tag, record) => {
+                let asked = [parent.to_le_bytes(), tag.to_le_bytes(), [side, 0], record.to_le_bytes()].concat();
+                (HELD, b'e', asked, ours::hang_held(table, parent, side, tag, record), self.reference.hang_held(&mut theirs, parent, side, tag, record))
+            }
         };
         self.answers[call + behind][(b & 31) as usize] += 1;
         more.extend_from_slice(table);
@@ -169,39 +190,88 @@ impl Run {
         a
     }
 
-    /// A few calls one after the other. What was just hung is at times cut off again, which restores every byte.
+    /// The halves of a hang that has been answered and has left a table. The first half says what it said; the second, given that record, leaves the same bytes,
+    /// and given another keeps the table.
+    fn halves(&mut self, cases: &mut Cases, before: &[u8], (parent, side, tag): (u16, u8, u16), answer: u32, left: &[u8]) {
+        let named = self.hold(0, before, parent, side);
+        self.must(named == answer, format!("hold of parent {parent}, side {side}: {named:#x}, hang {answer:#x}"), before, &[]);
+        let record = cases.record(before, (named >> 16) as u16);
+        let (change, mut table) = (Change::Held(parent, side, tag, record), before.to_vec());
+        let held = self.change(0, &mut table, change);
+        let holds = held == second_half(named, record) && table == if held == 0 { left } else { before };
+        self.must(holds, format!("{change:?} after hold {named:#x}: {held}"), before, &[]);
+    }
+
+    /// A call, and at times the cut of what it has just hung, which restores every byte; a hang by its halves as well.
+    fn step(&mut self, cases: &mut Cases, table: &mut [u8]) {
+        let (before, change) = (table.to_vec(), cases.change(table));
+        let answer = self.change(0, table, change);
+        if let Change::Hang(parent, side, tag) = change {
+            self.halves(cases, &before, (parent, side, tag), answer, table);
+        }
+        let record = (answer >> 16) as u16;
+        if record != 0 && cases.below(3) == 0 {
+            let answer = self.change(0, table, Change::Cut(record));
+            self.must(answer == 0 && *table == *before, format!("cut of {record}, just hung by {change:?}: {answer}"), &before, &[]);
+        }
+    }
+
+    /// A few calls one after the other. A place is held before them, and hung after them with the record that was named, if it would still be used.
     fn changes(&mut self, cases: &mut Cases, table: &[u8]) {
         let mut table = table.to_vec();
-        for _ in 0..1 + cases.below(6) {
-            let before = table.clone();
-            let change = cases.change(&table);
-            let record = self.change(0, &mut table, change) >> 16;
-            if record != 0 && cases.below(3) == 0 {
-                let answer = self.change(0, &mut table, Change::Cut(record as u16));
-                self.hold(answer == 0 && table == before, format!("cut of {record}, just hung by {change:?}: {answer}"), &before, &[]);
-            }
+        let (parent, side) = cases.place(&table);
+        let record = (self.hold(0, &table, parent, side) >> 16) as u16;
+        for _ in 0..cases.below(7) {
+            self.step(cases, &mut table);
         }
+        let (change, before) = (Change::Held(parent, side, cases.tag(), record), table.clone());
+        let named = self.hold(0, &table, parent, side);
+        let held = self.change(0, &mut table, change);
+        let holds = held == second_half(named, record) && (held == 0 || table == before);
+        self.must(holds, format!("{change:?} after hold {named:#x}: {held}"), &before, &[]);
     }
 
-    /// A free chain of n records hung whole, and cut off again.
+    /// A free chain of n records, all of them hung, half of them by halves, and cut off again.
     fn grown(&mut self, cases: &mut Cases, n: usize) {
         let (mut table, calls) = cases.grown(n);
-        for change in calls {
+        for mut change in calls {
+            if let Change::Hang(parent, side, tag) = change {
+                if cases.below(2) == 0 {
+                    change = Change::Held(parent, side, tag, (self.hold(0, &table, parent, side) >> 16) as u16);
+                }
+            }
             let answer = self.change(0, &mut table, change);
-            self.hold(answer & 0xffff == 0, format!("{change:?}, of a chain of {n}: refused {answer}"), &table, &[]);
+            self.must(answer & 0xffff == 0, format!("{change:?}, of a chain of {n}: refused {answer}"), &table, &[]);
         }
     }
 
-    /// Every small table: drawn, a node hung at each place, and each record cut.
-    fn every_small_table(&mut self) {
+    /// The halves of a hang of a small table, the second one given each of these records.
+    fn small_halves(&mut self, table: &[u8], place: u16, records: std::ops::Range<u16>) {
+        let (parent, side) = (place / 2, place as u8 % 2);
+        self.hold(SMALL, table, parent, side);
+        for record in records {
+            self.change(SMALL, &mut table.to_vec(), Change::Held(parent, side, 5, record));
+        }
+    }
+
+    /// Every small table: drawn, a node hung at each place, and each record cut; and the halves of a hang: on an accepted one at each place with each of the records
+    /// 0 to 3, on half of the refused ones at one place with one record.
+    fn every_small_table(&mut self, cases: &mut Cases) {
         for (i, table) in every_small_table().enumerate() {
             self.sharing = i % 61 == 0;
-            self.draw(SMALL_DRAW, &table, &mut [7; 6]);
+            let refusal = self.draw(SMALL_DRAW, &table, &mut [7; 6]);
             for place in 0..6 {
                 self.change(SMALL, &mut table.clone(), Change::Hang(place / 2, place as u8 % 2, 5));
+                if refusal == 0 {
+                    self.small_halves(&table, place, 0..4);
+                }
             }
             for node in 0..3 {
                 self.change(SMALL, &mut table.clone(), Change::Cut(node));
+            }
+            if refusal != 0 && cases.below(2) == 0 {
+                let (place, record) = (cases.below(6) as u16, cases.below(4) as u16);
+                self.small_halves(&table, place, record..record + 1);
             }
         }
     }
@@ -234,7 +304,7 @@ fn main() {
     let share = fs::File::create(format!("{folder}/share")).unwrap();
     let mut run = Run {
         seed, folder, reference: Reference::new(), share,
-        sharing: false, calls: 0, shared: 0, differences: 0, answers: [[0; 32]; 11],
+        sharing: false, calls: 0, shared: 0, differences: 0, answers: [[0; 32]; CALLS.len()],
     };
     let mut cases = Cases::new(seed);
     for i in 0..count {
@@ -263,7 +333,7 @@ fn main() {
         run.sharing = n < 100;
         run.grown(&mut cases, n);
     }
-    run.every_small_table();
+    run.every_small_table(&mut cases);
     for n in 1..=4 {
         run.every_sheet(n);
     }

@@ -78,18 +78,27 @@ while at < len(data):
         if (answer, found) != (wanted, struct.pack('<%dd' % floats, *point)):
             save('stroke', table, before, 'number %d, pitch %d: ours %#x %s, reference %#x %s' %
                  (number, pitch, answer, struct.unpack('<%dd' % floats, found), wanted, point))
-    elif which in b'hk':
-        asked = struct.unpack('<HHBB', take(6)) if which == b'h' else struct.unpack('<H', take(2))
+    elif which == b'o':
+        parent, side, _ = struct.unpack('<HBB', take(4))
+        refusal, record = racksheet.hold(table, parent, side, UPTO)
+        wanted = refusal | record << 16
+        if answer != wanted:
+            save('hold', table, [], '%s: ours %#x, reference %#x' % ((parent, side), answer, wanted))
+    elif which in b'hke':
+        form, name = {b'h': ('<HHBB', 'hang'), b'k': ('<H', 'cut'), b'e': ('<HHBBH', 'hang_held')}[which]
+        asked = struct.unpack(form, take(struct.calcsize(form)))
         after = take(size)
         if which == b'h':
             parent, tag, side, _ = asked
             refusal, record, left = racksheet.hang(table, parent, side, tag, UPTO)
             wanted = refusal | record << 16
-        else:
+        elif which == b'k':
             wanted, left = racksheet.cut(table, *asked, UPTO)
+        else:
+            parent, tag, side, _, record = asked
+            wanted, left = racksheet.hang_held(table, parent, side, tag, record, UPTO)
         if (answer, after) != (wanted, left):
-            save('hang' if which == b'h' else 'cut', table, [], '%s: ours %#x, reference %#x, tables %s' %
-                 (asked, answer, wanted, 'equal' if after == left else 'differ'))
+            save(name, table, [], '%s: ours %#x, reference %#x, tables %s' % (asked, answer, wanted, 'equal' if after == left else 'differ'))
     else:
         wanted = racksheet.check(table, before, UPTO)
         if answer != wanted:

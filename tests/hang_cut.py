@@ -105,6 +105,11 @@ def free_chains(t):
         if record:
             t.cut(record)
         assert t.bytes == packed(words), name
+        assert t.hold(leaf, side) == record, name
+        assert t.held(leaf, side, 5, record) == (0 if record else 10), name
+        if record:
+            t.cut(record)
+        assert t.bytes == packed(words), name
     t.name('other causes beside the free chain')
     for words in (edited(ROOM, (0, 2, 11)), edited(ROOM, (9, 3, 1)), edited(ROOM, (9, 0, 8)), edited(ALONE, (0, 2, 1))):
         t.every(packed(words), 1000, 3, short=2, leaf=6)
@@ -205,11 +210,16 @@ def every_cut(t, rng):
                 t.table(data)
 
 
+def open_places(table, rng):
+    """Parents and sides where a node can be hung, if a record is free."""
+    return [(b, side) for b in table.chain for side in (0, 1) if not (table.left, table.right)[side][b]] or [(0, rng.randrange(2))]
+
+
 def calls(t, rng, count, likely):
     """So many calls on the table as it stands: hung where a node can be, as likely as that, or cut where one can be; and now and then anything else."""
     for _ in range(count):
         table = racksheet.read(t.bytes, UPTO)
-        open_places = [(b, side) for b in table.chain for side in (0, 1) if not (table.left, table.right)[side][b]] or [(0, rng.randrange(2))]
+        places = open_places(table, rng)
         leaves = [b for b in table.chain if not table.left[b] and not table.right[b]]
         tag, any_record = rng.choice((0, rng.randrange(65536))), rng.choice((rng.randrange(table.records + 1), rng.randrange(65536)))
         if rng.random() < 0.15:
@@ -217,7 +227,7 @@ def calls(t, rng, count, likely):
         elif rng.random() < 0.05:
             t.cut(any_record)
         elif rng.random() < likely or not leaves:
-            t.hang(*rng.choice(open_places), tag)
+            t.hang(*rng.choice(places), tag)
         else:
             t.cut(rng.choice(leaves))
 

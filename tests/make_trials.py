@@ -1,9 +1,10 @@
 #!/usr/bin/env python3
 """Makes crates/trials/stdin and crates/trials/stdout anew, always the same, from a fixed seed.
 
-The cases are sheets of document 01, every refusal and every verdict in several ways, sheets with level lines, random trees, and hangs and cuts (hang_cut.py);
-their parts, and each of the sheets with level lines, free chains and series of calls that were made by hand, have names, which are printed. Each table that is drawn
-is drawn wide as well; each that is refused, and the drawing of each larger random tree, is asked for strokes; and each that is refused for its bytes is asked to hang and to cut.
+The cases are sheets of document 01, every refusal and every verdict in several ways, sheets with level lines, random trees, hangs and cuts (hang_cut.py), and
+hangs by halves (halves.py); their parts, and each of the sheets with level lines, free chains and series of calls that were made by hand, have names, which are printed.
+Each table that is drawn is drawn wide as well; each that is refused, and the drawing of each larger random tree, is asked for strokes; and each that is refused for its
+bytes is asked to hang, to cut, and for the halves of a hang.
 What must be printed comes from the reference program alone (reference/racksheet.py), never from our code.
 The form of the cases is told at the head of crates/trials/src/main.rt.
 """
@@ -17,6 +18,7 @@ from fractions import Fraction
 here = os.path.dirname(os.path.abspath(__file__))
 sys.path[:0] = [here, os.path.join(here, 'reference')]
 sys.dont_write_bytecode = True
+import halves
 import hang_cut
 import racksheet
 import slips
@@ -141,9 +143,24 @@ class Trials:
         self.changed_records(before)
         return refusal
 
+    def hold(self, parent, side):
+        self.case(13, parent, side)
+        refusal, record = racksheet.hold(self.bytes, parent, side, UPTO)
+        self.lines.append('hold refused %d' % refusal if refusal else 'hold %d' % record)
+        return record
+
+    def held(self, parent, side, tag, record):
+        self.case(14, parent, side, tag, more=record.to_bytes(8, 'little'))
+        before = self.bytes
+        refusal, self.bytes = racksheet.hang_held(before, parent, side, tag, record, UPTO)
+        self.lines.append('held %d' % refusal)
+        self.changed_records(before)
+        return refusal
+
     def every(self, data, first=0, step=0, short=0, extra=0, pitches=(0, 255), leaf=1):
         """Draws a table wide, then draws it and checks the drawing, on placements that tell which were kept; a refused one is asked for strokes too,
-        and, if its bytes are the cause, to hang a node where none can be had and below a leaf, and to cut off none and that leaf."""
+        and, if its bytes are the cause, to hang a node where none can be had and below a leaf, whole and by halves, with the record that the head's right
+        names and with that leaf's, and to cut off none and that leaf."""
         count = max(0, 2 * (len(data) // 8) - short) + extra
         self.table(data)
         self.filled(count, first, step)
@@ -155,10 +172,12 @@ class Trials:
         for pitch in pitches if refusal else ():
             self.stroke(pitch, 0)
             assert self.lines[-1] == 'stroke refused %d' % refusal
-        for node in (0, leaf) if refusal not in (0, 6) else ():
+        for node, record in ((0, int.from_bytes(data[4:6], 'little')), (leaf, leaf)) if refusal not in (0, 6) else ():
             self.hang(node, 0, 7)
             self.cut(node)
-            assert self.lines[-2:] == ['hang refused %d' % refusal, 'cut %d' % refusal]
+            self.hold(node, 0)
+            self.held(node, 0, 7, record)
+            assert self.lines[-4:] == [says % refusal for says in ('hang refused %d', 'cut %d', 'hold refused %d', 'held %d')]
         return refusal
 
 
@@ -520,8 +539,9 @@ def large_checks(t, rng, points_of):
 
 
 def telling(t):
-    """For each slip of a drawing, a check, a stroke, a hang or a cut, up to a dozen cases that tell it."""
-    makers = {'check': check_case, 'level': level_case, 'stroke': stroke_case, 'hang': hang_cut.hang_case, 'cut': hang_cut.cut_case}
+    """For each slip of a drawing, a check, a stroke, a hang, a cut or a half of a hang, up to a dozen cases that tell it."""
+    makers = {'check': check_case, 'level': level_case, 'stroke': stroke_case, 'hang': hang_cut.hang_case, 'cut': hang_cut.cut_case,
+              'hold': halves.hold_case, 'held': halves.held_case}
     for kind, name, *changes in slips.SLIPS:
         if len(slips.CALLS[kind]) > 1:
             continue
@@ -547,7 +567,7 @@ def asked(t, kind, data, *more):
     elif kind in ('draw', 'wide'):
         t.filled(len(more[0]), *SEQUENCE)
         more = more[1:]
-    {'draw': t.draw, 'check': t.check, 'level': t.check, 'wide': t.wide, 'stroke': t.stroke, 'hang': t.hang, 'cut': t.cut}[kind](*more)
+    {'draw': t.draw, 'check': t.check, 'level': t.check, 'wide': t.wide, 'stroke': t.stroke, 'hang': t.hang, 'cut': t.cut, 'hold': t.hold, 'held': t.held}[kind](*more)
     if kind == 'draw':
         t.check()
 
@@ -595,10 +615,10 @@ def random_trees(t, rng):
                 t.changed([(k, before[0]), (k + 1, before[1])])
 
 
-def main():
-    t = Trials()
+def parts(t):
+    """The parts of the stream, by name."""
     runs = seeded('level runs')
-    for name, part in [
+    return [
         ('sheets worked by hand', lambda: worked(t)),
         ('refusals', lambda: refusals(t)),
         ('strokes', lambda: strokes(t)),
@@ -621,7 +641,16 @@ def main():
         ('tables grown and cut down', lambda: hang_cut.grown(t, seeded('grown'))),
         ('damaged tables with free chains', lambda: hang_cut.damaged(t, seeded('damaged free chains'))),
         ('random trees with free chains', lambda: hang_cut.random_trees(t, seeded('free chains'))),
-    ]:
+        ('hangs by halves', lambda: halves.series(t)),
+        ('the halves of a hang at every place', lambda: halves.every_place(t, seeded('every place by halves'))),
+        ('random calls by halves', lambda: halves.random_calls(t, seeded('halves'))),
+        ('halves in large tables', lambda: halves.large(t, seeded('large tables by halves'))),
+    ]
+
+
+def main():
+    t = Trials()
+    for name, part in parts(t):
         t.name(name)
         part()
     crate = os.path.join(os.path.dirname(here), 'crates', 'trials')
@@ -629,9 +658,9 @@ def main():
         f.write(b''.join(t.cases))
     with open(os.path.join(crate, 'stdout'), 'w', encoding='ascii', newline='\n') as f:
         f.write('\n'.join(t.lines) + '\n')
-    for name in ('draw', 'check', 'wide', 'stroke', 'hang', 'cut'):
+    for name in ('draw', 'check', 'wide', 'stroke', 'hang', 'cut', 'hold', 'held'):
         asked = [line.split() for line in t.lines if re.match(name + r' (refused )?(\d|done|lift|draw)', line)]
-        asked = [words[2] if words[1] == 'refused' else '0' if name in ('wide', 'hang') else words[1] for words in asked]
+        asked = [words[2] if words[1] == 'refused' else '0' if name in ('wide', 'hang', 'hold') else words[1] for words in asked]
         print(name, len(asked), *('%s:%d' % (a, asked.count(a)) for a in sorted(set(asked), key=lambda a: (len(a), a))))
     print('width', sum(line.startswith('width ') for line in t.lines))
 

@@ -3,8 +3,8 @@
 
 A slip is a change of a line or two of the reference program, made in memory; the file itself stays as it is.
 Only cases of the call that the slip is of are counted; a slip of the table, its free chain too, has to be told by every call, and one of the placements by every
-call that is lent some. make_trials.py seeks cases that tell each slip of a drawing, a check (of level lines with sheets of such lines), a stroke, a hang or a cut,
-and stores what the unchanged program says of them.
+call that is lent some. make_trials.py seeks cases that tell each slip of a drawing, a check (of level lines with sheets of such lines), a stroke, a hang, a cut or a
+half of a hang (hold, and hang held), and stores what the unchanged program says of them.
 """
 import os
 import sys
@@ -16,7 +16,8 @@ UPTO = int(open(os.path.join(here, 'upto')).read())     # requests 1 to UPTO of 
 
 # The calls of the reference program whose answers a kind of slip changes.
 CALLS = {'draw': ['draw'], 'check': ['check'], 'level': ['check'], 'wide': ['draw_wide'], 'stroke': ['stroke'], 'hang': ['hang'], 'cut': ['cut'],
-         'table': ['draw', 'check', 'draw_wide', 'stroke', 'hang', 'cut'], 'placements': ['draw', 'check', 'draw_wide', 'stroke']}
+         'hold': ['hold'], 'held': ['hang_held'], 'table': ['draw', 'check', 'draw_wide', 'stroke', 'hang', 'cut', 'hold', 'hang_held'],
+         'placements': ['draw', 'check', 'draw_wide', 'stroke']}
 
 TIE = 'size[L[v]] >= size[R[v]]'
 TIE_BY = 'size[L[v]] > size[R[v]] or size[L[v]] == size[R[v]] and '
@@ -59,6 +60,13 @@ FOLLOWS = 'new = with_word(new, parent, NEXT, f)'
 TAGGED = 'new = with_word(new, f, TAG, tag)'
 ROOTED = 'new = with_word(new, 0, LEFT, f)'
 LINKED = 'new = with_word(new, parent, LEFT if side == 0 else RIGHT, f)'
+READ_HOLD = 'return (t.refusal, 0)\n    refusal = _place'
+PLACE_HOLD = 'if refusal != 0:\n        return (refusal, 0)\n'
+NAMED = 'return (0, t.free[0])'
+FIRST_HALF = 'refusal, named = hold(data, parent, side, upto)'
+SECOND_HALF = 'if named != record:'
+ANOTHER = 'return (11, bytes(data))'
+HELD = '_, _, new = hang(data, parent, side, tag, upto)\n    return (0, new)'
 NO_NODE = 'if node not in t.chain:                                     # 0 too'
 READ_CUT = 'return (t.refusal, data)\n    ' + NO_NODE
 CHILD = 'if t.left[node] != 0 or t.right[node] != 0:'
@@ -79,6 +87,65 @@ LATE = [MET, MET.replace('return refuse(8)', LATER), WORDS, WORDS.replace('retur
 FOUR = 'if child != 0 and child not in on_chain:'
 AFTER_FOUR = 'root = word(data, 0, LEFT)\n'
 NO_TREE, A_TREE = 'return Table(records=records, free=free)', 'return Table(0, records, chain, free, root, roots, left, right, tag)'
+
+# Slips of what is written by a hang, whole or by halves.
+WRITING = [
+    ('the record stays free', UNFREED, 'new = data'),
+    ('the free records behind it are lost', UNFREED, 'new = with_word(data, 0, RIGHT, 0)'),
+    ('the last free record is taken', LEAF, 'f = t.free[-1]'),
+    ('the free record of the least number is taken', LEAF, 'f = min(t.free)'),
+    ('a record on neither chain is taken', LEAF, 'f = min(set(range(1, t.records)) - set(t.chain))'),
+    ('chained at the end', FOLLOWED, 'new = with_word(new, f, NEXT, 0)', FOLLOWS, 'new = with_word(new, t.chain[-1] if t.chain else 0, NEXT, f)'),
+    ('chained at the front', FOLLOWED, 'new = with_word(new, f, NEXT, word(data, 0, NEXT))', FOLLOWS, 'new = with_word(new, 0, NEXT, f)'),
+    ('chained before its parent', FOLLOWED, 'new = with_word(new, f, NEXT, parent)',
+     FOLLOWS, 'new = with_word(new, ([0] + t.chain)[t.chain.index(parent)] if parent else 0, NEXT, f)'),
+    ('chained behind the left child, if there is one', FOLLOWED, 'p = t.left.get(parent, 0) or parent; new = with_word(new, f, NEXT, word(data, p, NEXT))',
+     FOLLOWS, 'new = with_word(new, p, NEXT, f)'),
+    ('not chained', FOLLOWS, 'pass'),
+    ('the chain behind the parent is lost', FOLLOWED, 'new = with_word(new, f, NEXT, 0)'),
+    ('the chain goes on along the free records', FOLLOWED, 'pass'),
+    ('the tag is not written', TAGGED, 'pass'),
+    ('the tag cut to 8 bits', TAGGED, TAGGED.replace('tag)', 'tag % 256)')),
+    ('always on the left', LINKED, LINKED.replace('LEFT if side == 0 else RIGHT', 'LEFT')),
+    ('left and right traded', LINKED, LINKED.replace('side == 0', 'side == 1')),
+    ('no link to it', LINKED, 'pass'),
+    ('no link to the root', ROOTED, 'pass'),
+    ("the root on the right side is written to the head's right", ROOTED, ROOTED.replace('LEFT', 'LEFT if side == 0 else RIGHT')),
+]
+# Slips of the places at which a hang, or either half of it, is refused.
+PLACING = [
+    ('a side above 1 is taken', SIDE, SIDE.replace('side > 1', 'False')),
+    ('a side above 1 is taken for the root', SIDE, SIDE.replace('side > 1', 'side > 1 and parent != 0')),
+    ('the side cut to a bit', SIDE, 'side %= 2\n    ' + SIDE, LINKED, LINKED.replace('side', 'side % 2')),
+    ('a second root', EMPTY, EMPTY.replace('t.chain', 'False')),
+    ('a side that is taken is written over', TAKEN, 'if False:'),
+    ('the other side is asked for', TAKEN, TAKEN.replace('side == 0', 'side == 1')),
+    ('one child is enough', TAKEN, 'if t.left[parent] != 0 or t.right[parent] != 0:'),
+    ('a parent that is free', OFF, 'if parent not in t.chain + t.free:', TAKEN, TAKEN_ANY),
+    ('a parent on neither chain', OFF, 'if parent >= t.records or parent in t.free:', TAKEN, TAKEN_ANY),
+    ('10 before 9', SIDE, 'if not t.free:\n        return 10\n    ' + SIDE),
+    ('10 before a side above 1', SIDE, 'if not t.free and side > 1:\n        return 10\n    ' + SIDE),
+    ('10 before a side that is taken', TAKEN, 'if not t.free:\n            return 10\n        ' + TAKEN),
+    ('10 before a tree that is not empty', EMPTY, 'if t.chain and not t.free:\n            return 10\n        ' + EMPTY),
+    ('the root is hung on the left alone', EMPTY, EMPTY.replace('t.chain', 't.chain or side == 1')),
+    ('no root is hung', EMPTY, EMPTY.replace('t.chain', 'True')),
+]
+
+
+def early(read):
+    """Slips of 9 and 10, told before what the table itself gives, at the line that tells that."""
+    return [(name, read, read.replace('t.refusal', sooner + ' else t.refusal')) for name, sooner in (
+        ('9 for the side before all others', '9 if side > 1'),
+        ('9 for the root before 5', '9 if parent == 0 and t.refusal == 5'),
+        ('9 for the root before 8', '9 if parent == 0 and t.refusal == 8'),
+        ('10 before 5', '10 if t.refusal == 5 and word(data, 0, RIGHT) == 0'))]
+
+
+def eleven(cause):
+    """11 told earlier: another record than the head's right names, with that cause."""
+    return FIRST_HALF, FIRST_HALF + "\n    if %s and bytes(data[4:6]) != record.to_bytes(2, 'little'):\n        %s" % (cause, ANOTHER)
+
+
 SLIPS = [
     ('draw', 'a child pending at the end is forgotten, left hand', 'put_by_left_edge(pending_left, 1, lowest_row() + 1)', 'pass'),
     ('draw', 'a child pending at the end is forgotten, right hand',
@@ -171,47 +238,10 @@ SLIPS = [
     ('stroke', 'the number cut to 16 bits', FIRST, FIRST + '    number %= 2 ** 16\n'),
     ('stroke', 'the number cut to 32 bits', FIRST, FIRST + '    number %= 2 ** 32\n'),
     ('stroke', 'the number with a sign', FIRST, FIRST + '    number -= number // 2 ** 63 * 2 ** 64\n', NTH, NTH.replace('[number]', '[max(number, 0)]')),
-    ('hang', 'the record stays free', UNFREED, 'new = data'),
-    ('hang', 'the free records behind it are lost', UNFREED, 'new = with_word(data, 0, RIGHT, 0)'),
-    ('hang', 'the last free record is taken', LEAF, 'f = t.free[-1]'),
-    ('hang', 'the free record of the least number is taken', LEAF, 'f = min(t.free)'),
-    ('hang', 'a record on neither chain is taken', LEAF, 'f = min(set(range(1, t.records)) - set(t.chain))'),
+    *[('hang', *slip) for slip in WRITING + PLACING + early(READ_HANG)],
     ('hang', 'where none is free, a record on neither chain is taken', LEAF, 'f = min(t.free[:1] or set(range(1, t.records)) - set(t.chain))',
      NONE_FREE, 'if t.records == 1 + len(t.chain):'),
-    ('hang', 'chained at the end', FOLLOWED, 'new = with_word(new, f, NEXT, 0)', FOLLOWS, 'new = with_word(new, t.chain[-1] if t.chain else 0, NEXT, f)'),
-    ('hang', 'chained at the front', FOLLOWED, 'new = with_word(new, f, NEXT, word(data, 0, NEXT))', FOLLOWS, 'new = with_word(new, 0, NEXT, f)'),
-    ('hang', 'chained before its parent', FOLLOWED, 'new = with_word(new, f, NEXT, parent)',
-     FOLLOWS, 'new = with_word(new, ([0] + t.chain)[t.chain.index(parent)] if parent else 0, NEXT, f)'),
-    ('hang', 'chained behind the left child, if there is one', FOLLOWED, 'p = t.left.get(parent, 0) or parent; new = with_word(new, f, NEXT, word(data, p, NEXT))',
-     FOLLOWS, 'new = with_word(new, p, NEXT, f)'),
-    ('hang', 'not chained', FOLLOWS, 'pass'),
-    ('hang', 'the chain behind the parent is lost', FOLLOWED, 'new = with_word(new, f, NEXT, 0)'),
-    ('hang', 'the chain goes on along the free records', FOLLOWED, 'pass'),
-    ('hang', 'the tag is not written', TAGGED, 'pass'),
-    ('hang', 'the tag cut to 8 bits', TAGGED, TAGGED.replace('tag)', 'tag % 256)')),
-    ('hang', 'always on the left', LINKED, LINKED.replace('LEFT if side == 0 else RIGHT', 'LEFT')),
-    ('hang', 'left and right traded', LINKED, LINKED.replace('side == 0', 'side == 1')),
-    ('hang', 'no link to it', LINKED, 'pass'),
-    ('hang', 'no link to the root', ROOTED, 'pass'),
-    ('hang', "the root on the right side is written to the head's right", ROOTED, ROOTED.replace('LEFT', 'LEFT if side == 0 else RIGHT')),
-    ('hang', 'a side above 1 is taken', SIDE, SIDE.replace('side > 1', 'False')),
-    ('hang', 'a side above 1 is taken for the root', SIDE, SIDE.replace('side > 1', 'side > 1 and parent != 0')),
-    ('hang', 'the side cut to a bit', SIDE, 'side %= 2\n    ' + SIDE, LINKED, LINKED.replace('side', 'side % 2')),
-    ('hang', 'a second root', EMPTY, EMPTY.replace('t.chain', 'False')),
-    ('hang', 'a side that is taken is written over', TAKEN, 'if False:'),
-    ('hang', 'the other side is asked for', TAKEN, TAKEN.replace('side == 0', 'side == 1')),
-    ('hang', 'one child is enough', TAKEN, 'if t.left[parent] != 0 or t.right[parent] != 0:'),
-    ('hang', 'a parent that is free', OFF, 'if parent not in t.chain + t.free:', TAKEN, TAKEN_ANY),
-    ('hang', 'a parent on neither chain', OFF, 'if parent >= t.records or parent in t.free:', TAKEN, TAKEN_ANY),
     ('hang', 'with no record free it answers 0 and keeps the table', READ_HANG, READ_HANG + '\n    if _place_refusal(t, parent, side) == 10:\n        return (0, 0, data)'),
-    ('hang', '10 before 9', SIDE, 'if not t.free:\n        return 10\n    ' + SIDE),
-    ('hang', '10 before a side above 1', SIDE, 'if not t.free and side > 1:\n        return 10\n    ' + SIDE),
-    ('hang', '10 before a side that is taken', TAKEN, 'if not t.free:\n            return 10\n        ' + TAKEN),
-    ('hang', '10 before a tree that is not empty', EMPTY, 'if t.chain and not t.free:\n            return 10\n        ' + EMPTY),
-    ('hang', '9 for the side before all others', READ_HANG, READ_HANG.replace('t.refusal', '9 if side > 1 else t.refusal')),
-    ('hang', '9 for the root before 5', READ_HANG, READ_HANG.replace('t.refusal', '9 if parent == 0 and t.refusal == 5 else t.refusal')),
-    ('hang', '9 for the root before 8', READ_HANG, READ_HANG.replace('t.refusal', '9 if parent == 0 and t.refusal == 8 else t.refusal')),
-    ('hang', '10 before 5', READ_HANG, READ_HANG.replace('t.refusal', '10 if t.refusal == 5 and word(data, 0, RIGHT) == 0 else t.refusal')),
     ('cut', "the parent's left is left as it is", CUT_LEFT, 'pass'),
     ('cut', "the parent's right is left as it is", CUT_RIGHT, 'pass'),
     ('cut', "the head's link is left as it is", CUT_ROOT, 'pass'),
@@ -240,6 +270,57 @@ SLIPS = [
     ('cut', '9 before all others', READ_CUT, READ_CUT.replace('t.refusal', '9 if node == 0 else t.refusal')),
     ('cut', '9 before 8', READ_CUT, READ_CUT.replace('t.refusal', '9 if node == 0 and t.refusal == 8 else t.refusal')),
     ('cut', '9 before 5', READ_CUT, READ_CUT.replace('t.refusal', '9 if node == 0 and t.refusal == 5 else t.refusal')),
+    *[('hold', *slip) for slip in PLACING + early(READ_HOLD)],
+    ('hold', 'the last free record is named', NAMED, NAMED.replace('[0]', '[-1]')),
+    ('hold', 'the free record of the least number is named', NAMED, 'return (0, min(t.free))'),
+    ('hold', 'the free record behind the first is named', NAMED, 'return (0, (t.free * 2)[1])'),
+    ('hold', 'a record on neither chain is named', NAMED, 'return (0, min(set(range(1, t.records)) - set(t.chain)))'),
+    ('hold', 'where none is free, a record on neither chain is named', NAMED, 'return (0, min(t.free[:1] or set(range(1, t.records)) - set(t.chain)))',
+     NONE_FREE, 'if t.records == 1 + len(t.chain):'),
+    ('hold', 'where none is free, 0 is named', PLACE_HOLD, PLACE_HOLD.replace('(refusal,', '(refusal % 10,')),
+    ('hold', 'the parent is named', NAMED, 'return (0, parent)'),
+    ('hold', 'the record is cut to 8 bits', NAMED, NAMED.replace('[0]', '[0] % 256')),
+    ('hold', 'a place that cannot be had is held', PLACE_HOLD, PLACE_HOLD.replace('refusal != 0', 'not t.free')),
+    ('hold', 'the child is named where the side is taken', PLACE_HOLD,
+     PLACE_HOLD.replace('if', 'if side < 2 and ((t.left, t.right)[side].get(parent)):\n        return (0, (t.left, t.right)[side][parent])\n    if')),
+    *[('held', *slip) for slip in WRITING + PLACING + early(READ_HOLD)],
+    ('held', '11 is not tested', SECOND_HALF, 'if False:'),
+    ('held', 'any free record will do, and the first one is hung', SECOND_HALF, 'if record not in read(data, upto).free:'),
+    ('held', 'any free record will do, and is hung', SECOND_HALF, 'FILE[:] = [record]\n    if record not in read(data, upto).free:', LEAF, 'f = FILE[0]',
+     UNFREED, 'i = t.free.index(f); new = with_word(data, *((t.free[i - 1], NEXT) if i else (0, RIGHT)), word(data, f, NEXT))'),
+    ('held', 'the last free record will do', SECOND_HALF, 'if record not in (named, read(data, upto).free[-1]):'),
+    ('held', 'the last free record is asked for', SECOND_HALF, 'if record != read(data, upto).free[-1]:'),
+    ('held', 'the free record of the least number is asked for', SECOND_HALF, 'if record != min(read(data, upto).free):'),
+    ('held', '0 stands for any record', SECOND_HALF, 'if record not in (0, named):'),
+    ('held', 'a record beyond the table stands for any', SECOND_HALF, 'if record < len(data) // 8 and record != named:'),
+    ('held', 'a lesser record will do', SECOND_HALF, 'if record > named:'),
+    ('held', 'a greater record will do', SECOND_HALF, 'if record < named:'),
+    ('held', 'low bytes alone are compared', SECOND_HALF, 'if record % 256 != named % 256:'),
+    ('held', 'high bytes alone are compared', SECOND_HALF, 'if record // 256 != named // 256:'),
+    ('held', 'the bytes of the record are swapped', SECOND_HALF, 'if record % 256 * 256 + record // 256 != named:'),
+    ('held', 'with another record it says 11 and hangs', ANOTHER, 'return (11, hang(data, parent, side, tag, upto)[2])'),
+    ('held', 'another record gives 9', ANOTHER, ANOTHER.replace('11', '9')),
+    ('held', 'another record gives 10', ANOTHER, ANOTHER.replace('11', '10')),
+    ('held', 'another record gives 0', ANOTHER, ANOTHER.replace('11', '0')),
+    ('held', '11 before 9', *eleven('refusal == 9')),
+    ('held', '11 before a side above 1', *eleven('refusal == 9 and side > 1')),
+    ('held', '11 before a side that is taken', *eleven('refusal == 9 and side < 2 and parent in read(data, upto).chain')),
+    ('held', '11 before a tree that is not empty', *eleven('refusal == 9 and side < 2 and parent == 0')),
+    ('held', '11 before 10', *eleven('refusal == 10')),
+    ('held', '11 for 10', FIRST_HALF, FIRST_HALF + '\n    refusal += refusal == 10'),
+    ('held', '10 for 11, where one record is free', ANOTHER, ANOTHER.replace('11', '11 - (len(read(data, upto).free) == 1)')),
+    *[('held', '11 before %s' % told, *eleven('refusal ' + cause))
+      for told, cause in (('all others', 'in (1, 2, 3, 8, 4, 5)'), ('8', '== 8'), ('4', '== 4'), ('5', '== 5'))],
+    ('held', 'where none is free, record 0 gives 0', FIRST_HALF, FIRST_HALF + '\n    if refusal == 10 and record == 0:\n        return (0, bytes(data))'),
+    ('held', '9 is not tested again', FIRST_HALF, FIRST_HALF + '\n    if refusal == 9:\n        return (0, bytes(data))'),
+    ('held', 'what hangs there already gives 0', FIRST_HALF, FIRST_HALF +
+     '\n    if refusal == 9 and side < 2 and (read(data, upto).left, read(data, upto).right)[side].get(parent) == record:\n        return (0, bytes(data))'),
+    ('held', 'the record is answered', HELD, HELD.replace('(0, new)', '(record, new)')),
+    ('held', 'nothing is written', HELD, 'return (0, bytes(data))'),
+    ('held', 'the record is written for the tag', HELD, HELD.replace('tag', 'record')),
+    ('held', 'tag and record are traded', SECOND_HALF, 'if named != tag:', HELD, HELD.replace('tag', 'record')),
+    ('held', 'the side is dropped', HELD, HELD.replace('side', '0')),
+    ('held', 'the other side is hung', HELD, HELD.replace('side', '1 - side')),
     ('table', "the head's right is still 2", HEAD_RIGHT, 'if word(data, 0, RIGHT) != 0:'),
     ('table', 'the free chain is not looked at', FREE_CHAIN, FREE_CHAIN.replace('upto >= 5', 'False')),
     ('table', 'the free chain is not looked at in an empty tree', FREE_CHAIN, FREE_CHAIN.replace('upto >= 5', 'chain')),
@@ -303,6 +384,17 @@ def words(data):
     return [int.from_bytes(data[i:i + 2], 'little') for i in range(0, len(data), 2)]
 
 
+def given(kind, count, first, step, numbers, places):
+    """The placements that a case of kind 2, 3 or 4 gives."""
+    if kind == 2:
+        return numbers
+    if kind == 3:
+        return [(first + step * i) % 65536 for i in range(count)]
+    for i in range(0, 2 * count, 2):
+        places[numbers[i]] = numbers[i + 1]
+    return places
+
+
 def cases():
     """Every call on a table in the stored stream: which, and what it is lent and given, as it stands before the call."""
     data = open(os.path.join(crate, 'stdin'), 'rb').read()
@@ -310,26 +402,18 @@ def cases():
     at, table, places = 0, b'', []
     while at < len(data):
         kind, count, first, step = words(data[at:at + 8])
-        more = data[at + 8:at + 8 + {1: count, 2: 2 * count, 4: 4 * count, 9: 8, 10: count}.get(kind, 0)]
+        more = data[at + 8:at + 8 + {1: count, 2: 2 * count, 4: 4 * count, 9: 8, 10: count, 14: 8}.get(kind, 0)]
         at += 8 + len(more)
         if kind == 1:
             table = more
-        elif kind == 2:
-            places = words(more)
-        elif kind == 3:
-            places = [(first + step * i) % 65536 for i in range(count)]
-        elif kind == 4:
-            pairs = words(more)
-            for i in range(0, 2 * count, 2):
-                places[pairs[i]] = pairs[i + 1]
-        elif kind == 5:
-            yield 'draw', table, list(places)
-            places = right.draw(table, places, UPTO)[4]
+        elif kind in (2, 3, 4):
+            places = given(kind, count, first, step, words(more), places)
+        elif kind in (5, 8):
+            call = 'draw' if kind == 5 else 'draw_wide'
+            yield call, table, list(places)
+            places = getattr(right, call)(table, places, UPTO)[4]
         elif kind == 6:
             yield 'check', table, list(places)
-        elif kind == 8:
-            yield 'draw_wide', table, list(places)
-            places = right.draw_wide(table, places, UPTO)[4]
         elif kind == 9:
             yield 'stroke', table, list(places), count, int.from_bytes(more, 'little')
         elif kind == 11:
@@ -338,6 +422,12 @@ def cases():
         elif kind == 12:
             yield 'cut', table, count
             table = right.cut(table, count, UPTO)[1]
+        elif kind == 13:
+            yield 'hold', table, count, first
+        elif kind == 14:
+            asked = count, first, step, words(more)[0]
+            yield 'hang_held', table, *asked
+            table = right.hang_held(table, *asked, UPTO)[1]
 
 
 def main():

@@ -3,6 +3,8 @@ use drawing::Drawn;
 use hanging::Hung;
 use hanging::cut;
 use hanging::hang;
+use hanging::hang_held;
+use hanging::hold;
 use pen::points::PenPoint;
 use pen::stroke;
 use pen::strokes::Stroke;
@@ -12,7 +14,8 @@ use wide::draw_wide;
 ghost use mathlib.Core.Path.{_≡_};
 ghost use mathlib.Core.List.{[], _∷_};
 ghost use Rattle.drawing.specs.Answer.{drawnOf, placedIn};
-ghost use Rattle.hanging.specs.Hanging.{hangSays, afterHang};
+ghost use Rattle.hanging.specs.Hanging.{said, hangSays, afterHang};
+ghost use Rattle.hanging.specs.Holding.{heldRefusal, afterHeld};
 ghost use Rattle.hanging.specs.Cutting.{cutRefusal, afterCut};
 ghost use Rattle.pen.specs.Strokes.{told, strokeOf};
 ghost use Rattle.verdict.specs.Verdict.{Verdict};
@@ -108,16 +111,37 @@ pub extern "C" fn bt_stroke(
     put_stroke(stroke(table, placements, pitch, number), point)
 }
 
-// The refusal in bits 0 to 15, the record in bits 16 to 31.
+// What hanging says in one number: the refusal in bits 0 to 15, the record in bits 16 to 31.
+fn pack_hung(answer: Hung) -> u32
+    ensures { λ r. ⌜ r ≡ packedSaid (said answer) ⌝ }
+{
+    match answer {
+        Hung::Leaf(leaf) => 0x1_0000 * (leaf as u32),
+        Hung::Refused(number) => number as u32,
+    }
+}
+
 #[no_mangle]
 pub extern "C" fn bt_hang(table: &mut [u8], parent: u16, side: u8, tag: u16) -> u32
     ensures { λ r. ⌜ r ≡ packedSaid (hangSays (now (table .entry)) parent side) ⌝ }
     ensures { λ _. ⌜ now (table .exit) ≡ afterHang (now (table .entry)) parent side tag ⌝ }
 {
-    match hang(table, parent, side, tag) {
-        Hung::Leaf(leaf) => 0x1_0000 * (leaf as u32),
-        Hung::Refused(number) => number as u32,
-    }
+    pack_hung(hang(table, parent, side, tag))
+}
+
+#[no_mangle]
+pub extern "C" fn bt_hold(table: &[u8], parent: u16, side: u8) -> u32
+    ensures { λ r. ⌜ r ≡ packedSaid (hangSays (now (table .entry)) parent side) ⌝ }
+{
+    pack_hung(hold(table, parent, side))
+}
+
+#[no_mangle]
+pub extern "C" fn bt_hang_held(table: &mut [u8], parent: u16, side: u8, tag: u16, held: u16) -> u32
+    ensures { λ r. ⌜ r ≡ heldRefusal (now (table .entry)) parent side held ⌝ }
+    ensures { λ _. ⌜ now (table .exit) ≡ afterHeld (now (table .entry)) parent side tag held ⌝ }
+{
+    hang_held(table, parent, side, tag, held) as u32
 }
 
 #[no_mangle]

@@ -1,5 +1,5 @@
 -- Cutting (hanging's Cutting): every word afterwards, what it leaves (`cut-leaf`), and that cutting the only node leaves the empty tree (`cut-only`). Rests on Accepted and Written
--- (`table`), Places (`hanging`), Inserted, Graft, Held, PruneChain, PruneSound and PruneTree.
+-- (`table`), Places (`hanging`), Inserted, Graft, Hooked, PruneChain, PruneSound and PruneTree.
 use mathlib.Core.Path.{_≡_, refl, sym, ap}
 use mathlib.Core.Logic.{_≢_, ⊎-elim}
 use mathlib.Core.List.{List, [], _∷_}
@@ -16,7 +16,7 @@ use Rattle.hanging.proofs.Places.{Cuttable, cuttable}
 use Rattle.calls.specs.Leaf.{CutLeaf}
 use Rattle.calls.proofs.Inserted.{behind-length}
 use Rattle.calls.proofs.Graft.{Graft}
-use Rattle.calls.proofs.Held.{before-cases, before-names, before-apart, before-within, held, hook-bounds, holder-apart, holder-within}
+use Rattle.calls.proofs.Hooked.{before-cases, before-names, before-apart, before-within, hooked, hook-bounds, holder-apart, holder-within}
 use Rattle.calls.proofs.PruneChain.{Prunable, pruned-chain, pruned-free}
 use Rattle.calls.proofs.PruneSound.{pruned-accepted}
 use Rattle.calls.proofs.PruneTree.{pruned-tree}
@@ -65,7 +65,7 @@ module _ {t : List ℕ} {k : ℕ} (h : Cuttable t k) where
       (omega arith, λ e. holder-apart h (e .0), (omega arith, head, zeroed-elsewhere (holder t k) (hook t k) (holder-apart h)))
     where
       head : (holder t k ≡ 0) × (hook t k ≡ 2) → ⊥
-      head e = ⊎-elim (λ (s : hook t k ≡ 1). omega (arith, e .1)) (λ (s : (hook t k ≡ 2) × (holder t k ≢ 0)). s .1 (e .0)) (held h .slot)
+      head e = ⊎-elim (λ (s : hook t k ≡ 1). omega (arith, e .1)) (λ (s : (hook t k ≡ 2) × (holder t k ≢ 0)). s .1 (e .0)) (hooked h .slot)
 
   cut-others : nextOf (cutOut t k) k ≡ firstFree t
   unfolding cutOut
@@ -98,20 +98,20 @@ module _ {t : List ℕ} {k : ℕ} (h : Cuttable t k) where
     inside = omega (arith, inside, ap (λ (n : ℕ). n / 8) cut-length);
     apart-c = before-apart h;
     apart-p = holder-apart h;
-    slot = held h .slot;
+    slot = hooked h .slot;
     first = cut-first;
     gap = cut-gap;
     vacant = cut-vacant;
     blank = cut-blank;
     others = sym cut-others;
     follows = before-names h;
-    named = held h .names;
+    named = hooked h .names;
     childless = h .childless;
     same = cut-same;
   }
 
   cut-prunable : Prunable t (namerOf t 0 k) (holder t k) k
-  cut-prunable = record { accepted = h .accepted; leaf = h .leaf; before = before-cases h; holder = held h .holder }
+  cut-prunable = record { accepted = h .accepted; leaf = h .leaf; before = before-cases h; holder = hooked h .holder }
 
   cuttable-leaf : CutLeaf t k
   cuttable-leaf = record {

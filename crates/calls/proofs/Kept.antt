@@ -7,11 +7,12 @@ use native.Mathlib.Omega.{arith}
 use lib.ListN.{length}
 use Rattle.table.specs.Table.{chain, firstFree}
 use Rattle.table.specs.Refusal.{fault}
-use Rattle.hanging.specs.Hanging.{hung, afterHang}
+use Rattle.hanging.specs.Hanging.{hangRefusal, hung, afterHang}
+use Rattle.hanging.specs.Holding.{afterHeld}
 use Rattle.hanging.specs.Cutting.{cutOut, afterCut}
-use Rattle.hanging.proofs.Answering.{after-hang, after-cut}
+use Rattle.hanging.proofs.Answering.{after-hang, after-held, after-cut}
 use Rattle.calls.specs.Leaf.{HungLeaf, CutLeaf}
-use Rattle.calls.specs.Calls.{Call, hang, cut, after, afterAll, Conserved}
+use Rattle.calls.specs.Calls.{Call, hang, hold, hangHeld, cut, after, afterAll, Conserved}
 use Rattle.calls.proofs.Inserted.{behind-length}
 use Rattle.calls.proofs.Hanging.{hang-leaf}
 use Rattle.calls.proofs.Cutting.{cut-leaf}
@@ -23,20 +24,29 @@ hung-conserved t parent side tag l = record {
   number = omega (arith, behind-length parent (firstFree t) 0 (chain t) (chain (hung t parent side tag)) (l .behind), ap length (l .taken));
 }
 
-pub kept-hang : (t : List ℕ) (parent side tag : ℕ) → fault t ≡ 0 → Conserved t (afterHang t parent side tag)
-kept-hang t parent side tag ok = after-hang t parent side (Conserved t) tag (λ e. hung-conserved t parent side tag (hang-leaf t parent side tag e)) (record { accepted = ok; number = refl })
+module _ (t : List ℕ) (parent side tag : ℕ) (ok : fault t ≡ 0) where
+  hung-kept : hangRefusal t parent side ≡ 0 → Conserved t (hung t parent side tag)
+  hung-kept e = hung-conserved t parent side tag (hang-leaf t parent side tag e)
+
+  kept-hang : Conserved t (afterHang t parent side tag)
+  kept-hang = after-hang t parent side (Conserved t) tag hung-kept (record { accepted = ok; number = refl })
+
+  kept-held : (held : ℕ) → Conserved t (afterHeld t parent side tag held)
+  kept-held held = after-held t parent side held (Conserved t) tag hung-kept (record { accepted = ok; number = refl })
 
 -- The leaf is one free record more, and one chained record fewer.
 cut-conserved : (t : List ℕ) (k : ℕ) → CutLeaf t k → Conserved t (cutOut t k)
 cut-conserved t k c = record { accepted = c .accepted; number = omega (arith, behind-length (c .before) k 0 (chain (cutOut t k)) (chain t) (c .behind), ap length (c .given)) }
 
-pub kept-cut : (t : List ℕ) (k : ℕ) → fault t ≡ 0 → Conserved t (afterCut t k)
+kept-cut : (t : List ℕ) (k : ℕ) → fault t ≡ 0 → Conserved t (afterCut t k)
 kept-cut t k ok = after-cut t k (Conserved t) (λ e. cut-conserved t k (cut-leaf t k e)) (record { accepted = ok; number = refl })
 
 -- One call, and any list of calls.
 pub kept-call : (c : Call) (t : List ℕ) → fault t ≡ 0 → Conserved t (after c t)
 unfolding after
 kept-call (hang parent side tag) t ok = kept-hang t parent side tag ok
+kept-call (hold parent side) t ok = record { accepted = ok; number = refl }
+kept-call (hangHeld parent side tag held) t ok = kept-held t parent side tag ok held
 kept-call (cut node) t ok = kept-cut t node ok
 
 pub kept-all : (cs : List Call) (t : List ℕ) → fault t ≡ 0 → Conserved t (afterAll cs t)

@@ -1,5 +1,5 @@
 -- The proofs of what the calls keep, in the order in which they rest on each other. A list with one number more: Inserted. Two tables that differ by one leaf: Graft;
--- from the one without it to the one with it (Grow...), and back (Prune...). Then the calls: Hanging; Held, Cutting; Undone, Restored; Elsewhere, OffChain; Kept; and of the running code: Running.
+-- from the one without it to the one with it (Grow...), and back (Prune...). Then the calls: Hanging; Hooked, Cutting; Undone, Restored; Elsewhere, OffChain; Kept; Halves; and of the running code: Running.
 pub mod Inserted
 pub mod Graft
 pub mod GrowChain
@@ -11,11 +11,12 @@ pub mod PruneLinks
 pub mod PruneSound
 pub mod PruneTree
 pub mod Hanging
-pub mod Held
+pub mod Hooked
 pub mod Cutting
 pub mod Undone
 pub mod Restored
 pub mod Elsewhere
 pub mod OffChain
 pub mod Kept
+pub mod Halves
 pub mod Running

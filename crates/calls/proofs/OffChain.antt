@@ -1,14 +1,14 @@
 -- Of records on neither chain "left, right and tag change no answer", of the bytes that the calls leave: two tables that differ there only do so after each call
 -- (`off-chain-after`), so that no later answer tells them apart. Rests on Lists, Written, Accepted and OffChain (`table`), Places, Answering and OffChain (`hanging`), Inserted,
--- Hanging, Held and Cutting.
+-- Hanging, Hooked and Cutting.
 use mathlib.Core.Path.{_≡_, refl, sym, ap, _∙_}
 use mathlib.Core.Logic.{_⊎_, inl, inr, ⊎-elim}
-use mathlib.Core.Bool.{Bool}
+use mathlib.Core.Bool.{Bool, true, false}
 use mathlib.Core.List.{List, [], _∷_}
 use Prim.Native.Nat.{ℕ, _<_}
-use native.Mathlib.Decide.{ℕ-discrete}
 use native.Mathlib.Omega.{arith}
 use lib.Dec.{T, eqb}
+use borrow.Author.Tests.{eqb-true}
 use Rattle.table.specs.Lists.{member}
 use Rattle.table.specs.Table.{records, word, nextOf, chain, Chained, firstFree, free, Free}
 use Rattle.table.specs.Refusal.{fault}
@@ -19,15 +19,16 @@ use Rattle.table.proofs.Written.{OfWords, length-writes, written-same}
 use Rattle.table.proofs.Accepted.{Empty, records-bounds, chain-within, free-within, first-free}
 use Rattle.table.proofs.OffChain.{chain-same, first-same}
 use Rattle.hanging.specs.Hanging.{slot, hangRefusal, hung, afterHang}
+use Rattle.hanging.specs.Holding.{afterHeld}
 use Rattle.hanging.specs.Cutting.{first, namerOf, holder, hook, cutRefusal, cutOut, afterCut}
 use Rattle.hanging.proofs.Places.{hang-place, Cuttable, cuttable}
-use Rattle.hanging.proofs.Answering.{hang-refused, hang-done, cut-kept, cut-after}
-use Rattle.hanging.proofs.OffChain.{hang-refusal-same, off-chain-cut}
+use Rattle.hanging.proofs.Answering.{held-hang}
+use Rattle.hanging.proofs.OffChain.{hang-refusal-same, off-chain-held, off-chain-cut}
 use Rattle.calls.specs.Leaf.{HungLeaf, CutLeaf}
-use Rattle.calls.specs.Calls.{Call, hang, cut, after}
+use Rattle.calls.specs.Calls.{Call, hang, hold, hangHeld, cut, after}
 use Rattle.calls.proofs.Inserted.{behind-member}
 use Rattle.calls.proofs.Hanging.{hang-leaf}
-use Rattle.calls.proofs.Held.{hook-bounds}
+use Rattle.calls.proofs.Hooked.{hook-bounds}
 use Rattle.calls.proofs.Cutting.{cut-leaf}
 
 -- The first record that passes a test, where two tests agree on the list.
@@ -123,24 +124,16 @@ module _ {t u : List ℕ} (h : OffChain t u) where
       freed m n = ⊎-elim (λ (e : m ≡ k). inl (rw e (c .leaf))) (λ (f : Free t m). inr f) (member-cons m k (free t) .0 (rw (l .given) at n))
 
   -- After a call, whether it was refused or not: it is refused on both or on neither.
-  after-hang-off : (parent side tag : ℕ) → OffChain (afterHang t parent side tag) (afterHang u parent side tag)
-  after-hang-off parent side tag = go (ℕ-discrete (hangRefusal t parent side) 0)
+  either-off : (n m : ℕ) (a b : List ℕ) → m ≡ n → (n ≡ 0 → OffChain a b) → OffChain (elim (eqb n 0) [ true ↦ a | false ↦ t ]) (elim (eqb m 0) [ true ↦ b | false ↦ u ])
+  either-off n m a b e done = rw e (go (eqb n 0) refl)
     where
-      same : hangRefusal u parent side ≡ hangRefusal t parent side
-      same = hang-refusal-same h parent side
-
-      go : Dec (hangRefusal t parent side ≡ 0) → OffChain (afterHang t parent side tag) (afterHang u parent side tag)
-      go (yes z) = rw (← (hang-done t parent side (firstFree t) tag _ z refl refl .1), ← (hang-done u parent side (firstFree u) tag _ (same ∙ z) refl refl .1)) (off-hung h parent side tag z)
-      go (no n) = rw (← (hang-refused t parent side _ tag refl n .1), ← (hang-refused u parent side _ tag refl (λ z. n (sym same ∙ z)) .1)) h
-
-  after-cut-off : (k : ℕ) → OffChain (afterCut t k) (afterCut u k)
-  after-cut-off k = go (ℕ-discrete (cutRefusal t k) 0)
-    where
-      go : Dec (cutRefusal t k ≡ 0) → OffChain (afterCut t k) (afterCut u k)
-      go (yes z) = rw (← (cut-after t k z), ← (cut-after u k (off-chain-cut h k ∙ z))) (off-cut k z)
-      go (no n) = rw (← (cut-kept t k n), ← (cut-kept u k (λ z. n (sym (off-chain-cut h k) ∙ z)))) h
+      go : (c : Bool) → eqb n 0 ≡ c → OffChain (elim c [ true ↦ a | false ↦ t ]) (elim c [ true ↦ b | false ↦ u ])
+      go true z = done (eqb-true n 0 z)
+      go false z = h
 
   pub off-chain-after : (c : Call) → OffChain (after c t) (after c u)
-  unfolding after
-  off-chain-after (hang parent side tag) = after-hang-off parent side tag
-  off-chain-after (cut node) = after-cut-off node
+  unfolding after afterHang afterHeld afterCut
+  off-chain-after (hang parent side tag) = either-off _ _ _ _ (hang-refusal-same h parent side) (off-hung h parent side tag)
+  off-chain-after (hold parent side) = h
+  off-chain-after (hangHeld parent side tag held) = either-off _ _ _ _ (off-chain-held h parent side held) (λ z. off-hung h parent side tag (held-hang t parent side held z))
+  off-chain-after (cut node) = either-off _ _ _ _ (off-chain-cut h node) (off-cut node)

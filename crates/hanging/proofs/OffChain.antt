@@ -1,4 +1,4 @@
--- Of records on neither chain "left, right and tag change no answer": of hanging and cutting, `off-chain-hang`, `off-chain-cut`. Rests on Lists and on that law of tables.
+-- Of records on neither chain "left, right and tag change no answer": of hanging, of its two halves and of cutting, `off-chain-hang`, `off-chain-held`, `off-chain-cut`. Rests on Lists and on that law of tables.
 use mathlib.Core.Path.{_≡_, refl}
 use mathlib.Core.Bool.{Bool, true, false, not, _||_}
 use mathlib.Core.List.{List}
@@ -13,6 +13,7 @@ use Rattle.table.specs.OffChain.{OffChain}
 use Rattle.table.proofs.Lists.{T-true}
 use Rattle.table.proofs.OffChain.{chain-same, first-same, fault-same}
 use Rattle.hanging.specs.Hanging.{slot, noPlace, hangRefusal, hangSays}
+use Rattle.hanging.specs.Holding.{heldRefusal}
 use Rattle.hanging.specs.Cutting.{noLeaf, cutRefusal}
 
 -- What is asked of a record off the chain is not asked of its words.
@@ -34,6 +35,10 @@ module _ {t u : List ℕ} (h : OffChain t u) where
   pub off-chain-hang : (parent side : ℕ) → hangSays u parent side ≡ hangSays t parent side
   unfolding hangSays
   off-chain-hang parent side = rw (hang-refusal-same parent side, first-same h)
+
+  pub off-chain-held : (parent side held : ℕ) → heldRefusal u parent side held ≡ heldRefusal t parent side held
+  unfolding heldRefusal
+  off-chain-held parent side held = rw (hang-refusal-same parent side, first-same h)
 
   leaf-same : (k : ℕ) → noLeaf u k ≡ noLeaf t k
   unfolding noLeaf

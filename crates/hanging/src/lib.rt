@@ -1,4 +1,4 @@
-// Hanging a leaf in the tree of a table, and cutting one off.
+// Hanging a leaf in the tree of a table, at once or in two halves, and cutting one off.
 mod find;
 
 use crate::find::contains;
@@ -12,12 +12,13 @@ use table::words::word;
 use table::writing::set_word;
 ghost use mathlib.Core.Path.{_≡_};
 ghost use Prim.Native.Nat.{_<_};
-ghost use Rattle.table.specs.Table.{records, firstFree};
+ghost use Rattle.table.specs.Table.{records};
 ghost use Rattle.table.specs.inner.Reading.{Nodes};
 ghost use Rattle.hanging.specs.Hanging.{slot, noPlace, hangRefusal, said, hangSays, hung, afterHang};
+ghost use Rattle.hanging.specs.Holding.{heldRefusal, afterHeld};
 ghost use Rattle.hanging.specs.Cutting.{noLeaf, cutRefusal, holder, hook, cutOut, afterCut};
 
-// The answer: the record of the leaf, or refused.
+// The answer of hanging and of its first half: the record of the leaf, or refused.
 pub enum Hung {
     Leaf(u16),
     Refused(u16),
@@ -62,6 +63,17 @@ fn hang_refusal(table: &[u8], parent: usize, side: usize) -> u16
     0
 }
 
+// The first half of hanging: names the record that would be used, and writes nothing.
+pub fn hold(table: &[u8], parent: u16, side: u8) -> Hung
+    ensures { λ r. ⌜ said r ≡ hangSays (now (table .entry)) parent side ⌝ }
+{
+    let cause = hang_refusal(table, index(parent), side as usize);
+    if cause != 0 {
+        return Hung::Refused(cause);
+    }
+    Hung::Leaf(right(table, 0) as u16)
+}
+
 // The word of the parent that names its child on that side; of the head, its left.
 fn slot_of(parent: usize, side: usize) -> usize
     requires { ⌜ side < 2 ⌝ }
@@ -73,11 +85,10 @@ fn slot_of(parent: usize, side: usize) -> usize
     1 + side
 }
 
-// Makes the first free record the child at that side of the parent, and answers its number.
-fn hang_first(table: &mut [u8], parent: usize, side: usize, tag: usize) -> usize
+// Makes the first free record the child at that side of the parent.
+fn hang_first(table: &mut [u8], parent: usize, side: usize, tag: usize)
     requires { ⌜ hangRefusal (now table) parent side ≡ 0 ⌝ }
     requires { ⌜ tag < 65536 ⌝ }
-    ensures { λ r. ⌜ r ≡ firstFree (now (table .entry)) ⌝ }
     ensures { λ _. ⌜ now (table .exit) ≡ hung (now (table .entry)) parent side tag ⌝ }
 {
     let leaf = right(table, 0);
@@ -88,21 +99,37 @@ fn hang_first(table: &mut [u8], parent: usize, side: usize, tag: usize) -> usize
     set_word(table, 0, 2, free);
     set_word(table, leaf, 0, follower);
     set_word(table, parent, 0, leaf);
-    leaf
 }
 
-// Hangs the first free record of a table at a side of a parent, and answers its number. The table is kept on a refusal.
+// The second half of hanging: hangs the record that was held, if the first half would still name it. 0, or why it is not hung. The table is kept on a refusal.
+pub fn hang_held(table: &mut [u8], parent: u16, side: u8, tag: u16, held: u16) -> u16
+    ensures { λ r. ⌜ r ≡ heldRefusal (now (table .entry)) parent side held ⌝ }
+    ensures { λ _. ⌜ now (table .exit) ≡ afterHeld (now (table .entry)) parent side tag held ⌝ }
+{
+    match hold(table, parent, side) {
+        Hung::Leaf(leaf) => {
+            if held != leaf {
+                return 11;
+            }
+            hang_first(table, index(parent), side as usize, index(tag));
+            0
+        }
+        Hung::Refused(number) => number,
+    }
+}
+
+// Hangs the first free record of a table at a side of a parent, and answers its number: both halves at once. The table is kept on a refusal.
 pub fn hang(table: &mut [u8], parent: u16, side: u8, tag: u16) -> Hung
     ensures { λ r. ⌜ said r ≡ hangSays (now (table .entry)) parent side ⌝ }
     ensures { λ _. ⌜ now (table .exit) ≡ afterHang (now (table .entry)) parent side tag ⌝ }
 {
-    let at = index(parent);
-    let cause = hang_refusal(table, at, side as usize);
-    if cause != 0 {
-        return Hung::Refused(cause);
+    match hold(table, parent, side) {
+        Hung::Leaf(leaf) => {
+            hang_first(table, index(parent), side as usize, index(tag));
+            Hung::Leaf(leaf)
+        }
+        Hung::Refused(number) => Hung::Refused(number),
     }
-    let leaf = hang_first(table, at, side as usize, index(tag));
-    Hung::Leaf(leaf as u16)
 }
 
 // Cause 9 of cutting.

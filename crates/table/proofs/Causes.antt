@@ -1,4 +1,4 @@
--- What a table is like without one of the causes of refusal, or some; that a later cause is asked only without the earlier ones (`cond-same`). Rests on Lists and Chain.
+-- What a table is like without one of the causes of refusal, or some; that a later cause is asked only without the earlier ones (`cond-same`); that their numbers are at most 8 (`fault-below`). Rests on Lists and Chain.
 use mathlib.Core.Path.{_≡_, refl}
 use mathlib.Core.Logic.{_⊎_, inl, inr, ⊎-elim, ⊎-map}
 use mathlib.Core.Bool.{Bool, true, false, not, cond, _&&_, _||_}
@@ -11,7 +11,7 @@ use borrow.Author.Tests.{ltb-false, leb-false, lt-leb, eqb-false}
 use Rattle.table.specs.Lists.{any, member, repeats, count}
 use Rattle.table.specs.Table.{Side, left, right, records, nextOf, leftOf, rightOf, tagOf, linkOf, rootOf, trail, chain, Chained, firstFree, free, Free}
 use Rattle.table.specs.Tree.{size, nodes, descend, tree}
-use Rattle.table.specs.Refusal.{badLength, beyond, broken, badChain, occupied, badFree, stray, badLinks, links, named}
+use Rattle.table.specs.Refusal.{badLength, badHead, beyond, broken, badChain, occupied, badFree, stray, badLinks, links, named, badTree, fault}
 use Rattle.table.proofs.Lists.{T-false, passes, or-false, any-false, same, Alike, alike, member-count, Distinct, Within, length-within, length-between, links-within}
 use Rattle.table.proofs.Chain.{follow-none, follow-zero, nodes-zero, descend-more, length-nodes, nodes-deeper, namer}
 
@@ -29,6 +29,20 @@ cond-same false n e = e refl
 pub later-none : (n x : ℕ) → cond (eqb n 0) x n ≡ 0 → (n ≡ 0) × (x ≡ 0)
 later-none zero x e = (refl, e)
 later-none (suc n) x e = absurd (omega (arith, rw eqb·suc-zero at e))
+
+-- Where two numbers are not above n, the one that is chosen is not.
+pub cond-below : {x y n : ℕ} (b : Bool) → x ≤ n → y ≤ n → cond b x y ≤ n
+cond-below true h k = h
+cond-below false h k = k
+
+-- The causes from the bytes alone have numbers up to 8.
+pub fault-below : (t : List ℕ) → fault t ≤ 8
+unfolding fault
+fault-below t =
+    let c : (b : Bool) (n m : ℕ) → n ≤ 8 → m ≤ 8 → cond b n m ≤ 8 = λ b n m. cond-below b in
+    c (badLength t) 1 _ (omega arith)
+    (c (badHead t) 2 _ (omega arith)
+    (c (badChain t) 3 _ (omega arith) (c (badFree t) 8 _ (omega arith) (c (badLinks t) 4 _ (omega arith) (c (badTree t) 5 0 (omega arith) (omega arith))))))
 
 -- A word that does not fail the test for zero.
 pub zero-word : (n : ℕ) → not (eqb n 0) ≡ false → n ≡ 0

@@ -1,4 +1,4 @@
-// Runs the drawer, the check, the allowed width, the wide drawer, the pen, hanging and cutting on the cases of standard input, and prints every answer.
+// Runs the drawer, the check, the allowed width, the wide drawer, the pen, hanging, at once and in two halves, and cutting on the cases of standard input, and prints every answer.
 // What it must print is made by tests/make_trials.py from the reference program. Proved safe; what it prints is tested.
 //
 // A case is a head of four words (16 bits, low byte first) named kind, count, first, step, and what the kind says:
@@ -17,7 +17,10 @@
 //   11 hang: at the parent count, on the side first mod 256, with the tag step. Prints 'hang' and the record, or 'hang refused' and the
 //     refusal; and for each record of the table that is changed a line, 'record', its number, and its four words afterwards
 //   12 cut: the node count. Prints 'cut' and the refusal or 0, and the changed records as in 11
-// The table that 11 or 12 leaves is the table from there on.
+//   13 hold: at the parent count, on the side first mod 256. Prints 'hold' and the record, or 'hold refused' and the refusal
+//   14 held: parent, side and tag as in 11; four words follow, a number, low word first, which mod 65536 is the record that was held. Prints 'held' and
+//     the refusal or 0, and the changed records as in 11
+// The table that 11, 12 or 14 leaves is the table from there on.
 // The cases end with the input, or with a head of any other kind.
 mod input;
 mod text;
@@ -161,56 +164,80 @@ fn run_name(count: usize, out: &mut [u8], used: usize) -> usize
     put(out, at, b'\n')
 }
 
-// The record that was hung, or the refusal.
-fn put_hung(out: &mut [u8], used: usize, answer: Hung) -> usize
+// What hanging or its first half says: the record, or the refusal.
+fn put_hung(out: &mut [u8], used: usize, name: &[u8], answer: Hung) -> usize
     requires { ⌜ 0 < length (now out) ⌝ }
     requires { ⌜ used ≤ length (now out) ⌝ }
     ensures { λ r. ⌜ r ≤ length (now (out .entry)) ⌝ }
 {
+    let named = put_all(out, used, name);
     match answer {
-        Hung::Leaf(record) => put_line(out, used, b"hang", number(record)),
-        Hung::Refused(refusal) => put_line(out, used, b"hang refused", number(refusal)),
+        Hung::Leaf(record) => put_line(out, named, b"", number(record)),
+        Hung::Refused(refusal) => put_line(out, named, b" refused", number(refusal)),
     }
 }
 
-// Hangs on the first bytes of a buffer, and prints the answer and the records that are changed.
-fn run_hang(table: &mut [u8], bytes: usize, out: &mut [u8], used: usize, h: Head) -> usize
-    requires { ⌜ 65536 ≤ length (now table) ⌝ }
-    requires { ⌜ bytes ≤ 65536 ⌝ }
+fn run_hold(table: &[u8], out: &mut [u8], used: usize, h: Head) -> usize
+    requires { ⌜ 0 < length (now out) ⌝ }
+    requires { ⌜ used ≤ length (now out) ⌝ }
+    requires { ⌜ h .count ≤ 65535 ⌝ }
+    ensures { λ r. ⌜ r ≤ length (now (out .entry)) ⌝ }
+{
+    let answer = hanging::hold(table, h.count as u16, (h.first % 256) as u8);
+    put_hung(out, used, b"hold", answer)
+}
+
+fn run_hang(table: &mut [u8], out: &mut [u8], used: usize, h: Head) -> usize
     requires { ⌜ 0 < length (now out) ⌝ }
     requires { ⌜ used ≤ length (now out) ⌝ }
     requires { ⌜ h .count ≤ 65535 ⌝ }
     requires { ⌜ h .step ≤ 65535 ⌝ }
     ensures { λ r. ⌜ r ≤ length (now (out .entry)) ⌝ }
 {
-    let mut before = [0u8; 65536];
-    copy(&table[..65536], &mut before);
-    let answer = hanging::hang(
-        &mut table[..bytes],
-        h.count as u16,
-        (h.first % 256) as u8,
-        h.step as u16,
-    );
-    let at = put_hung(out, used, answer);
-    put_changed(out, at, &before, table, bytes)
+    let side = (h.first % 256) as u8;
+    let answer = hanging::hang(table, h.count as u16, side, h.step as u16);
+    put_hung(out, used, b"hang", answer)
 }
 
-// Cuts on the first bytes of a buffer, and prints the answer and the records that are changed.
-fn run_cut(table: &mut [u8], bytes: usize, out: &mut [u8], used: usize, node: u16) -> usize
-    requires { ⌜ 65536 ≤ length (now table) ⌝ }
-    requires { ⌜ bytes ≤ 65536 ⌝ }
+fn run_held(table: &mut [u8], out: &mut [u8], used: usize, h: Head) -> usize
+    requires { ⌜ 0 < length (now out) ⌝ }
+    requires { ⌜ used ≤ length (now out) ⌝ }
+    requires { ⌜ h .count ≤ 65535 ⌝ }
+    requires { ⌜ h .step ≤ 65535 ⌝ }
+    ensures { λ r. ⌜ r ≤ length (now (out .entry)) ⌝ }
+{
+    let side = (h.first % 256) as u8;
+    let held = (next_number() % 65536) as u16;
+    let answer = hanging::hang_held(table, h.count as u16, side, h.step as u16, held);
+    put_line(out, used, b"held", number(answer))
+}
+
+fn run_cut(table: &mut [u8], out: &mut [u8], used: usize, node: u16) -> usize
     requires { ⌜ 0 < length (now out) ⌝ }
     requires { ⌜ used ≤ length (now out) ⌝ }
     ensures { λ r. ⌜ r ≤ length (now (out .entry)) ⌝ }
 {
-    let mut before = [0u8; 65536];
-    copy(&table[..65536], &mut before);
-    let answer = hanging::cut(&mut table[..bytes], node);
-    let at = put_line(out, used, b"cut", number(answer));
-    put_changed(out, at, &before, table, bytes)
+    put_line(out, used, b"cut", number(hanging::cut(table, node)))
 }
 
-// A case that writes to the table.
+// A call that writes to the table.
+fn write(table: &mut [u8], out: &mut [u8], used: usize, h: Head) -> usize
+    requires { ⌜ 0 < length (now out) ⌝ }
+    requires { ⌜ used ≤ length (now out) ⌝ }
+    requires { ⌜ h .count ≤ 65535 ⌝ }
+    requires { ⌜ h .step ≤ 65535 ⌝ }
+    ensures { λ r. ⌜ r ≤ length (now (out .entry)) ⌝ }
+{
+    if h.kind == 11 {
+        return run_hang(table, out, used, h);
+    }
+    if h.kind == 12 {
+        return run_cut(table, out, used, h.count as u16);
+    }
+    run_held(table, out, used, h)
+}
+
+// A case that writes to the table, the first bytes of a buffer: the answer, and the records that are changed.
 fn change(table: &mut [u8], bytes: usize, out: &mut [u8], used: usize, h: Head) -> usize
     requires { ⌜ 65536 ≤ length (now table) ⌝ }
     requires { ⌜ bytes ≤ 65536 ⌝ }
@@ -220,10 +247,10 @@ fn change(table: &mut [u8], bytes: usize, out: &mut [u8], used: usize, h: Head) 
     requires { ⌜ h .step ≤ 65535 ⌝ }
     ensures { λ r. ⌜ r ≤ length (now (out .entry)) ⌝ }
 {
-    if h.kind == 11 {
-        return run_hang(table, bytes, out, used, h);
-    }
-    run_cut(table, bytes, out, used, h.count as u16)
+    let mut before = [0u8; 65536];
+    copy(&table[..65536], &mut before);
+    let at = write(&mut table[..bytes], out, used, h);
+    put_changed(out, at, &before, table, bytes)
 }
 
 // A case that leaves the table as it is.
@@ -249,6 +276,9 @@ fn ask(table: &[u8], places: &mut [u16], out: &mut [u8], used: usize, h: Head) -
     }
     if h.kind == 10 {
         return run_name(h.count % 256, out, used);
+    }
+    if h.kind == 13 {
+        return run_hold(table, out, used, h);
     }
     run_width(h, out, used)
 }
@@ -296,7 +326,7 @@ fn answer(table: &mut [u8], places: &mut [u16], out: &mut [u8], s: State, h: Hea
 {
     let n = s.bytes;
     let m = s.places;
-    if 10 < h.kind {
+    if 10 < h.kind && h.kind != 13 {
         return change(table, n, out, s.used, h);
     }
     ask(&table[..n], &mut places[..m], out, s.used, h)
@@ -315,7 +345,7 @@ fn step(table: &mut [u8], places: &mut [u16], out: &mut [u8], s: State) -> State
     ensures { λ r. ⌜ r .used ≤ length (now (out .entry)) ⌝ }
 {
     let h = next_head();
-    if h.kind == 0 || 12 < h.kind {
+    if h.kind == 0 || 14 < h.kind {
         return State {
             bytes: s.bytes,
             places: s.places,

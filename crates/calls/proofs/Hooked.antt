@@ -38,7 +38,7 @@ namer-cases t j k = ⊎-map
     (first-cases (λ m. eqb (word t m j) k) (chain t))
 
 -- A record that word j of record p names: p is its parent, on the left or on the right, or the head.
-pub record Held (t : List ℕ) (k p j : ℕ) : Type 0 where
+pub record Hooked (t : List ℕ) (k p j : ℕ) : Type 0 where
   pub slot : (j ≡ 1) ⊎ ((j ≡ 2) × (p ≢ 0))
   pub names : word t p j ≡ k
   pub holder : ((p ≡ 0) × (rootOf t ≡ k)) ⊎ Chained t p
@@ -67,10 +67,10 @@ module _ {t : List ℕ} {k : ℕ} (h : Cuttable t k) where
   before-within = ⊎-elim (λ (e : namerOf t 0 k ≡ 0). omega (arith, records-bounds t (h .accepted))) (λ (m : Chained t (namerOf t 0 k)). chain-within t (h .accepted) (namerOf t 0 k) m .1) before-cases
 
   -- Its parent, or the head.
-  parent-right : Chained t (namerOf t 2 k) × (rightOf t (namerOf t 2 k) ≡ k) → Held t k (namerOf t 2 k) 2
+  parent-right : Chained t (namerOf t 2 k) × (rightOf t (namerOf t 2 k) ≡ k) → Hooked t k (namerOf t 2 k) 2
   parent-right r = record { slot = inr (refl, λ e. omega (arith, e, chain-within t (h .accepted) (namerOf t 2 k) (r .0))); names = r .1; holder = inr (r .0) }
 
-  parent-left : ((m : ℕ) → Chained t m → rightOf t m ≢ k) → Held t k (namerOf t 1 k) 1
+  parent-left : ((m : ℕ) → Chained t m → rightOf t m ≢ k) → Hooked t k (namerOf t 1 k) 1
   parent-left n = ⊎-elim (λ (r : Chained t (namerOf t 1 k) × (leftOf t (namerOf t 1 k) ≡ k)). record { slot = inl refl; names = r .1; holder = inr (r .0) }) top (namer-cases t 1 k)
     where
       orphan : ((m : ℕ) → Chained t m → leftOf t m ≢ k) → (s : Side) (m : ℕ) → Chained t m → linkOf t s m ≢ k
@@ -81,24 +81,24 @@ module _ {t : List ℕ} {k : ℕ} (h : Cuttable t k) where
       is-root l (inl e) = sym (e .0)
       is-root l (inr e) = let q = parent t (h .accepted) k (h .leaf) (e .0) in absurd (orphan l (q .1) (q .0) (q .2) (q .3))
 
-      top : (namerOf t 1 k ≡ 0) × ((m : ℕ) → Chained t m → leftOf t m ≢ k) → Held t k (namerOf t 1 k) 1
+      top : (namerOf t 1 k ≡ 0) × ((m : ℕ) → Chained t m → leftOf t m ≢ k) → Hooked t k (namerOf t 1 k) 1
       top r = let e = is-root (r .1) (alike k (rootOf t)) in record { slot = inl refl; names = ap (leftOf t) (r .0) ∙ e; holder = inl (r .0, e) }
 
-  pub held : Held t k (holder t k) (hook t k)
+  pub hooked : Hooked t k (holder t k) (hook t k)
   unfolding holder hook
-  held = ⊎-elim
+  hooked = ⊎-elim
       (λ (r : Chained t (namerOf t 2 k) × (rightOf t (namerOf t 2 k) ≡ k)). rw (ne-eqb (namerOf t 2 k) 0 (λ e. omega (arith, e, chain-within t (h .accepted) (namerOf t 2 k) (r .0)))) (parent-right r))
       (λ (r : (namerOf t 2 k ≡ 0) × ((m : ℕ) → Chained t m → rightOf t m ≢ k)). rw (eq-eqb (namerOf t 2 k) 0 (r .0)) (parent-left (r .1))) (namer-cases t 2 k)
 
   pub hook-bounds : (1 ≤ hook t k) × (hook t k ≤ 2)
-  hook-bounds = ⊎-elim (λ (e : hook t k ≡ 1). (omega arith, omega arith)) (λ (e : (hook t k ≡ 2) × (holder t k ≢ 0)). (omega arith, omega arith)) (held .slot)
+  hook-bounds = ⊎-elim (λ (e : hook t k ≡ 1). (omega arith, omega arith)) (λ (e : (hook t k ≡ 2) × (holder t k ≢ 0)). (omega arith, omega arith)) (hooked .slot)
 
   pub holder-apart : holder t k ≢ k
-  holder-apart e = ⊎-elim (λ (s : hook t k ≡ 1). clash 1 s (h .childless .0)) (λ (s : (hook t k ≡ 2) × (holder t k ≢ 0)). clash 2 (s .0) (h .childless .1)) (held .slot)
+  holder-apart e = ⊎-elim (λ (s : hook t k ≡ 1). clash 1 s (h .childless .0)) (λ (s : (hook t k ≡ 2) × (holder t k ≢ 0)). clash 2 (s .0) (h .childless .1)) (hooked .slot)
     where
       clash : (i : ℕ) → hook t k ≡ i → word t k i ≡ 0 → ⊥
-      clash i s z = omega (arith, leaf-positive, z, held .names, ap (λ (p : ℕ). word t p (hook t k)) e, ap (word t k) s)
+      clash i s z = omega (arith, leaf-positive, z, hooked .names, ap (λ (p : ℕ). word t p (hook t k)) e, ap (word t k) s)
 
   pub holder-within : holder t k < records t
   holder-within = ⊎-elim (λ (e : (holder t k ≡ 0) × (rootOf t ≡ k)). omega (arith, e .0, records-bounds t (h .accepted)))
-      (λ (m : Chained t (holder t k)). chain-within t (h .accepted) (holder t k) m .1) (held .holder)
+      (λ (m : Chained t (holder t k)). chain-within t (h .accepted) (holder t k) m .1) (hooked .holder)

@@ -1,9 +1,9 @@
--- `run_cut` is safe: the table in use lies within its buffer.
+-- `change` is safe: the table in use lies within its buffer.
 use native.Mathlib.Omega.{arith}
 use lib.ListN.{length-take}
 use borrow.Author.Needs.{needs}
-use Rattle.trials.proofs.run_cut.Statement.{statement}
-use Rattle.trials.proofs.run_cut.Tie as tie
+use Rattle.trials.proofs.change.Statement.{statement}
+use Rattle.trials.proofs.change.Tie as tie
 
 slice-reshare-prefix-copy : tie.Need-slice-reshare-prefix-copy
 slice-reshare-prefix-copy c = search needs
@@ -17,23 +17,14 @@ slice-aggregate-copy-2 c = search needs
 copy-requires : tie.Need-copy-requires
 copy-requires c κs = simp length-take (omega arith)
 
-slice-relend-prefix-cut : tie.Need-slice-relend-prefix-cut
-slice-relend-prefix-cut c = search needs
+slice-relend-prefix-write : tie.Need-slice-relend-prefix-write
+slice-relend-prefix-write c = search needs
 
-slice-aggregate-cut : tie.Need-slice-aggregate-cut
-slice-aggregate-cut c = simp length-take (omega arith)
+slice-aggregate-write : tie.Need-slice-aggregate-write
+slice-aggregate-write c = simp length-take (omega arith)
 
-cut-requires : tie.Need-cut-requires
-cut-requires c κs = search needs
-
-slice-aggregate-put-line : tie.Need-slice-aggregate-put-line
-slice-aggregate-put-line c = search needs
-
-number-requires : tie.Need-number-requires
-number-requires c κs = search needs
-
-put-line-requires : tie.Need-put-line-requires
-put-line-requires c κs = search needs
+write-requires : tie.Need-write-requires
+write-requires c κs = search needs
 
 slice-aggregate-put-changed : tie.Need-slice-aggregate-put-changed
 slice-aggregate-put-changed c = search needs
@@ -50,20 +41,17 @@ same-length-2 c = search needs
 returns : tie.Need-returns
 returns c = search needs
 
-pub run-cut-spec : {M : Type 1} → statement M
-run-cut-spec =
+pub change-spec : {M : Type 1} → statement M
+change-spec =
     tie.close
     (tie.spec
     slice-reshare-prefix-copy
     slice-aggregate-copy
     slice-aggregate-copy-2
     copy-requires
-    slice-relend-prefix-cut
-    slice-aggregate-cut
-    cut-requires
-    slice-aggregate-put-line
-    number-requires
-    put-line-requires
+    slice-relend-prefix-write
+    slice-aggregate-write
+    write-requires
     slice-aggregate-put-changed
     put-changed-requires
     same-length

@@ -1,0 +1,53 @@
+-- `pack_hung` packs what an answer of hanging says.
+use mathlib.Core.Path.{_≡_, sym, ap, _∙_}
+use Prim.Native.Nat.{ℕ, _*_}
+use native.Mathlib.Omega.{arith}
+use Rattle.hanging.specs.declared.Hung.{Hung}
+use Rattle.hanging.specs.declared.Hung.the-variants.{Leaf, Refused}
+use Rattle.hanging.specs.Hanging.{said}
+use Rattle.bt.specs.Packed.{packedSaid}
+use borrow.Author.Needs.{needs}
+use Rattle.bt.proofs.pack_hung.Statement.{statement}
+use Rattle.bt.proofs.pack_hung.Tie as tie
+
+enum-known-answer : tie.Need-enum-known-answer
+enum-known-answer c = search needs
+
+cast-result : tie.Need-cast-result
+cast-result c = search needs
+
+mul-result : tie.Need-mul-result
+mul-result c = search needs
+
+enum-known-answer-2 : tie.Need-enum-known-answer-2
+enum-known-answer-2 c = search needs
+
+cast-result-2 : tie.Need-cast-result-2
+cast-result-2 c = search needs
+
+-- A leaf, and a refusal.
+leaf-packed : (h : Hung) (k : ℕ) → h ≡ Leaf k → 65536 * k ≡ packedSaid (said h)
+unfolding said
+leaf-packed h k told = omega arith ∙ ap (λ (a : Hung). packedSaid (said a)) (sym told)
+
+refusal-packed : (h : Hung) (n : ℕ) → h ≡ Refused n → n ≡ packedSaid (said h)
+unfolding said
+refusal-packed h n told = omega arith ∙ ap (λ (a : Hung). packedSaid (said a)) (sym told)
+
+returns : tie.Need-returns
+returns c = leaf-packed _ _ (c .before .answer .given .1)
+
+returns-2 : tie.Need-returns-2
+returns-2 c = refusal-packed _ _ (c .before .answer2 .given .1)
+
+pub pack-hung-spec : {M : Type 1} → statement M
+pack-hung-spec =
+    tie.close
+    (tie.spec
+    enum-known-answer
+    cast-result
+    mul-result
+    enum-known-answer-2
+    cast-result-2
+    returns
+    returns-2)
