@@ -44,6 +44,7 @@ module _ (t : List ℕ) (parent side tag held : ℕ) where
     answers = λ e. same e (ℕ-discrete n 0) .0;
     leaves = λ e. same e (ℕ-discrete n 0) .1;
     kept = λ o. unwritten o (ℕ-discrete n 0);
+    refused = λ r. sym (held-refused t parent side held tag n refl r .0);
     eleven = λ z o. sym (held-moved t parent side held tag z o .0);
     only = λ e. (free e, λ q. omega (arith, e, same q (ℕ-discrete n 0) .0, free e));
   }
