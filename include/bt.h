@@ -1,5 +1,5 @@
-/* Drawing an ordered binary tree on a grid, checking such drawings, plotting them by a pen, and hanging leaves, at once or in two halves, and cutting them in the
- * table that holds the tree.
+/* Drawing an ordered binary tree on a grid, checking such drawings, comparing two lines, plotting drawings by a pen, and hanging leaves, at once or in two halves, and
+ * cutting them in the table that holds the tree.
  *
  * Link target/staticlib/libbt.a, which `rt staticlib bt` makes; of the C library it wants memcpy and memset alone. All functions end, allocate nothing, keep nothing between
  * calls, and may be called from several threads at once. Their stack was measured below 110 KB.
@@ -46,10 +46,19 @@ uint64_t bt_draw(const uint8_t *table, size_t table_len, uint16_t *placements, s
 uint64_t bt_draw_wide(const uint8_t *table, size_t table_len, uint16_t *placements, size_t placements_len);
 
 /* Checks any placements against a table, and writes nothing. Refuses with 6. Answers 0 for a good drawing, a refusal, or the first of these that holds:
- *   21 two nodes at one point    22 a child above its parent    23 two lines share more than a common end, or a node lies on a line that it does not end
+ *   21 two nodes at one point    22 a child above its parent    23 two lines cross, as bt_compare says it
+ *   25 two lines share a point other than one that both end at, or a node lies on a line that it does not end
  *   24 a left child not left of its right sibling, seen from their parent
  * A child may be level with its parent; of two level children the left one is to be left of the parent, the right one right of it. */
 uint32_t bt_check(const uint8_t *table, size_t table_len, const uint16_t *placements, size_t placements_len);
+
+/* How two lines meet, from column c1 and row r1 to c2 and r2, and from c3 and r3 to c4 and r4. Answers
+ *    0  separate: they share no point
+ *    1  at a shared end only: they share a point, and none but an end of both
+ *    2  crossing: they share a point that is inside both, no end of either, and are not parallel
+ *    3  touching: they share a point in any other way, as where one ends on the other or runs along it
+ * A line from a point to itself is parallel to every line; nothing is refused. */
+uint32_t bt_compare(uint16_t c1, uint16_t r1, uint16_t c2, uint16_t r2, uint16_t c3, uint16_t r3, uint16_t c4, uint16_t r4);
 
 /* The width that a drawing of so many nodes may have: 3 * floor(log2 nodes) + 1; 0 for 0 nodes and for more than 4,096. The width of
  * bt_draw keeps to it, and the height of bt_draw_wide. */
@@ -90,6 +99,9 @@ static inline unsigned bt_height(uint64_t drawn) { return drawn >> 48 & 0xffff; 
 /* What the pen does, in what bt_stroke answers if it is no refusal. */
 enum { BT_PEN_DONE, BT_PEN_LIFT, BT_PEN_DRAW };
 static inline unsigned bt_pen(uint32_t stroke) { return stroke >> 16; }
+
+/* What bt_compare answers. */
+enum { BT_SEPARATE, BT_SHARED_END, BT_CROSSING, BT_TOUCHING };
 
 /* The record, in what bt_hang or bt_hold answers if it is no refusal. */
 static inline unsigned bt_leaf(uint32_t hung) { return hung >> 16; }

@@ -1,7 +1,8 @@
-// Times draw, wide draw, check, strokes, hang, cut, the halves of a hang and the whole program beside the Rust reference, and wide draw beside draw, in one run.
+// Times draw, wide draw, check, strokes, hang, cut, the halves of a hang, the comparison of two lines and the whole program beside the Rust reference, and wide draw
+// beside draw, in one run.
 //   bench PLAN REFERENCE FOLDER: the two programs, and a folder for the tables
 mod oracle;
-use oracle::reference::cases::{timed_room, timed_sheet, timed_table, SHAPES, SHEETS};
+use oracle::reference::cases::{fault_shapes, timed_fault, timed_pairs, timed_room, timed_sheet, timed_table, FAULTS, SHAPES, SHEETS};
 use oracle::reference::Reference;
 use oracle::{ours, UPTO};
 use std::fs::File;
@@ -88,6 +89,23 @@ fn changes(theirs: &mut Reference, n: usize, free: usize) -> String {
     row("hang", hangs) + &row("cut", cuts) + &row("hold", holds) + &row("hang held", helds)
 }
 
+/// The times of a check.
+fn checks(theirs: &mut Reference, table: &[u8], places: &[u16], verdict: u32) -> String {
+    assert_eq!((ours::check(table, places), theirs.check(table, places)), (verdict, verdict));
+    row("check", two(
+        || { black_box(ours::check(black_box(table), places)); },
+        || { black_box(theirs.check(black_box(table), places)); }))
+}
+
+/// The times of a comparison of two lines, in nanoseconds, in the mean of a thousand.
+fn comparisons(theirs: &Reference) -> String {
+    let pairs = timed_pairs(1000);
+    assert!(pairs.iter().all(|&ends| ours::compare(ends) == theirs.compare(ends)));
+    row("compare", two(
+        || for &ends in &pairs { black_box(ours::compare(black_box(ends))); },
+        || for &ends in &pairs { black_box(theirs.compare(black_box(ends))); }))
+}
+
 /// A wide draw of 4,096 nodes may take so many times as long as our plain draw.
 const WIDE_ALLOWED: f64 = 1.5;
 
@@ -107,7 +125,6 @@ fn main() {
             let mut widely = places.clone();
             assert_eq!(ours::draw_wide(&table, &mut widely), theirs.draw_wide(&table, &mut other));
             assert_eq!(widely, other);
-            assert_eq!((ours::check(&table, &places), theirs.check(&table, &places)), (0, 0));
             let drawn = places.clone();
             let mut line = format!("{n:>4} {shape:<12}");
             let t = two(
@@ -125,10 +142,7 @@ fn main() {
             if n == 4096 {
                 most = f64::max(most, t.0 / t.1);
             }
-            let t = two(
-                || { black_box(ours::check(black_box(&table), &drawn)); },
-                || { black_box(theirs.check(black_box(&table), &drawn)); });
-            line += &row("check", t);
+            line += &checks(&mut theirs, &table, &drawn, 0);
             let file = format!("{folder}/{n}-{}.table", shape.replace(' ', "-"));
             std::fs::write(&file, &table).unwrap();
             let t = two(|| run(plan, &file), || run(reference, &file));
@@ -156,14 +170,20 @@ fn main() {
         for sheet in SHEETS {
             for shape in if sheet == "slanting" { &["comb"][..] } else { &SHAPES[..] } {
                 let (table, places) = timed_sheet(sheet, shape, n);
-                assert_eq!((ours::check(&table, &places), theirs.check(&table, &places)), (0, 0));
-                let t = two(
-                    || { black_box(ours::check(black_box(&table), &places)); },
-                    || { black_box(theirs.check(black_box(&table), &places)); });
-                println!("{n:>4} {sheet:<16}{shape:<12}{}", row("check", t));
+                println!("{n:>4} {sheet:<16}{shape:<12}{}", checks(&mut theirs, &table, &places, 0));
             }
         }
     }
+    println!("sheets whose lines cross or touch");
+    for n in [512, 4096] {
+        for sheet in FAULTS {
+            for shape in fault_shapes(sheet) {
+                let (table, places, verdict) = timed_fault(sheet, shape, n);
+                println!("{n:>4} {sheet:<18}{shape:<12}{}", checks(&mut theirs, &table, &places, verdict));
+            }
+        }
+    }
+    println!("two lines, least nanoseconds in the mean{}", comparisons(&theirs));
     println!("wide draw of 4096 nodes: up to {most:.2} times our draw, allowed {WIDE_ALLOWED}");
     std::process::exit((most > WIDE_ALLOWED) as i32);
 }

@@ -1,8 +1,9 @@
-// Compares the calls of the library with the reference on fresh random cases: ours (cases.rs), and the reference's own; and on every small sheet and table.
+// Compares the calls of the library with the reference on fresh random cases: ours (cases.rs), and the reference's own; and on every small sheet, table and pair of
+// lines.
 //   compare SEED CASES FOLDER: a share of the calls goes to FOLDER/share for the Python reference, a difference to FOLDER.
 mod oracle;
 use oracle::ours;
-use oracle::reference::cases::{every_small_table, every_table, Cases, Change};
+use oracle::reference::cases::{every_pair, every_small_table, every_table, far_pairs, Cases, Change};
 use oracle::reference::{reference_width, Reference};
 use std::fs;
 use std::io::Write;
@@ -19,10 +20,12 @@ struct Run {
     answers: [[u64; 32]; CALLS.len()],
 }
 
-/// The calls whose answers are counted; checks of sheets with many level lines, of every small sheet, and calls on every small table, by themselves.
-const CALLS: [&str; 15] = [
+/// The calls whose answers are counted; checks of sheets with many level lines, of ones whose lines cross and touch, of every small sheet, calls on every small table,
+/// and comparisons of every pair of lines on small grids or far apart, by themselves.
+const CALLS: [&str; 18] = [
     "draw", "wide", "check", "stroke", "check of level lines", "check of every small sheet", "hang", "cut", "hold", "hang held", "draw of every small table",
     "hang of every small table", "cut of every small table", "hold of every small table", "hang held of every small table",
+    "check of tangled sheets", "compare", "compare of every pair",
 ];
 const DRAW: usize = 0;
 const WIDE: usize = 1;
@@ -35,6 +38,9 @@ const CUT: usize = 7;
 const HOLD: usize = 8;
 const HELD: usize = 9;
 const SMALL_DRAW: usize = 10;
+const TANGLED: usize = 15;
+const COMPARE: usize = 16;
+const EVERY_PAIR: usize = 17;
 
 /// A hang, a cut or a half of a hang of every small table is counted so many places behind HANG, CUT, HOLD or HELD.
 const SMALL: usize = 5;
@@ -133,6 +139,22 @@ impl Run {
         self.answers[call][b as usize] += 1;
         self.to_share(b'c', table, places, a as u64, &[]);
         self.judge(a == b, format!("check: ours {a}, reference {b}"), table, places);
+    }
+
+    /// Two lines compared. For the other reference: their ends, for placements.
+    fn compare(&mut self, call: usize, ends: [u16; 8]) {
+        let (a, b) = (ours::compare(ends), self.reference.compare(ends));
+        self.answers[call][(b & 31) as usize] += 1;
+        self.to_share(b'l', &[], &ends, a as u64, &[]);
+        self.judge(a == b, format!("compare of {ends:?}: ours {a}, reference {b}"), &[], &ends);
+    }
+
+    /// Every pair of lines on grids of 3 by 3 and of 4 by 4, and between points far apart.
+    fn every_pair(&mut self) {
+        for (i, ends) in every_pair(3).chain(far_pairs()).chain(every_pair(4)).enumerate() {
+            self.sharing = i % 5 == 0;
+            self.compare(EVERY_PAIR, ends);
+        }
     }
 
     /// A stroke, with a point of so many floats, which hold marks before. For the other reference: pitch, floats, number, and the floats afterwards.
@@ -327,6 +349,11 @@ fn main() {
         run.check(CHECK, &case.table, &case.places);
         run.strokes(&mut cases, &case.table, &case.places);
         run.changes(&mut cases, &case.table);
+        let (table, places) = cases.tangled();
+        run.check(TANGLED, &table, &places);
+        for _ in 0..6 {
+            run.compare(COMPARE, cases.pair());
+        }
         run.any(cases.seed());
     }
     for n in [1, 2, 3, 10, 30, 100, 1000, 4096] {
@@ -337,6 +364,7 @@ fn main() {
     for n in 1..=4 {
         run.every_sheet(n);
     }
+    run.every_pair();
     run.sharing = false;
     for n in (0..5000).chain((0..64).map(|k| 1 << k)).chain((0..64).map(|k| (1 << k) - 1)) {
         run.width(n);

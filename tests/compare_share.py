@@ -84,6 +84,10 @@ while at < len(data):
         wanted = refusal | record << 16
         if answer != wanted:
             save('hold', table, [], '%s: ours %#x, reference %#x' % ((parent, side), answer, wanted))
+    elif which == b'l':
+        wanted = racksheet.compare(*zip(before[::2], before[1::2]))
+        if answer != wanted:
+            save('compare', table, before, 'lines %s: ours %d, reference %d' % (before, answer, wanted))
     elif which in b'hke':
         form, name = {b'h': ('<HHBB', 'hang'), b'k': ('<H', 'cut'), b'e': ('<HHBBH', 'hang_held')}[which]
         asked = struct.unpack(form, take(struct.calcsize(form)))

@@ -1,8 +1,9 @@
 #!/usr/bin/env python3
 """Makes crates/trials/stdin and crates/trials/stdout anew, always the same, from a fixed seed.
 
-The cases are sheets of document 01, every refusal and every verdict in several ways, sheets with level lines, random trees, hangs and cuts (hang_cut.py), and
-hangs by halves (halves.py); their parts, and each of the sheets with level lines, free chains and series of calls that were made by hand, have names, which are printed.
+The cases are sheets of document 01, every refusal and every verdict in several ways, sheets with level lines, random trees, hangs and cuts (hang_cut.py),
+hangs by halves (halves.py), and pairs of lines and sheets whose lines cross or touch (crossings.py); their parts, and each of the sheets, pairs of lines, free chains
+and series of calls that were made by hand, have names, which are printed.
 Each table that is drawn is drawn wide as well; each that is refused, and the drawing of each larger random tree, is asked for strokes; and each that is refused for its
 bytes is asked to hang, to cut, and for the halves of a hang.
 What must be printed comes from the reference program alone (reference/racksheet.py), never from our code.
@@ -18,17 +19,20 @@ from fractions import Fraction
 here = os.path.dirname(os.path.abspath(__file__))
 sys.path[:0] = [here, os.path.join(here, 'reference')]
 sys.dont_write_bytecode = True
+import crossings
 import halves
 import hang_cut
 import racksheet
 import slips
 import trees
+from crossings import FIVE, FOUR, PATH, TOP, TWO
 from slips import UPTO
 from trees import packed, plain
 
 SEED = 20240501
 ALL_UP_TO = 600                     # placements that are printed one by one
 SEQUENCE = 1, 7                     # placements before a drawing: the first and the step
+COMPARED = 'separate', 'end', 'crossing', 'touching'
 
 
 def seeded(part):
@@ -157,6 +161,10 @@ class Trials:
         self.changed_records(before)
         return refusal
 
+    def compare(self, *ends):
+        self.case(15, more=packed(ends))
+        self.lines.append('compare ' + COMPARED[racksheet.compare(*ends)])
+
     def every(self, data, first=0, step=0, short=0, extra=0, pitches=(0, 255), leaf=1):
         """Draws a table wide, then draws it and checks the drawing, on placements that tell which were kept; a refused one is asked for strokes too,
         and, if its bytes are the cause, to hang a node where none can be had and below a leaf, whole and by halves, with the record that the head's right
@@ -216,7 +224,7 @@ def worked(t):
     x, y = t.places[10:12]
     assert t.places[12:16] == [x - 1, y + 1, x - 1, y + 2]
     for links, places, verdict in (
-            ([(2, 3), (0, 0), (0, 0)], [0, 0, 0, 0, 0, 1, 0, 2], 23), ([(2, 3), (0, 0), (0, 0)], [0, 0, 0, 0, 2, 1, 1, 1], 24),
+            ([(2, 3), (0, 0), (0, 0)], [0, 0, 0, 0, 0, 1, 0, 2], 25), ([(2, 3), (0, 0), (0, 0)], [0, 0, 0, 0, 2, 1, 1, 1], 24),
             ([(2, 0), (0, 0)], [0, 0, 0, 0, 1, 0], 0), ([(0, 2), (0, 0)], [0, 0, 0, 0, 1, 0], 0)):      # good since document 02, Paper 4
         t.table(packed(plain(links)))
         t.numbers(places)
@@ -358,9 +366,7 @@ def verdicts(t, rng):
         t.check()
 
 
-TOP = 65535
-LEFT, RIGHT, TWO, PATH = [(2, 0), (0, 0)], [(0, 2), (0, 0)], [(2, 3), (0, 0), (0, 0)], [(2, 0), (3, 0), (0, 0)]
-FOUR, FIVE = [(2, 3), (4, 0), (0, 0), (0, 0)], [(2, 3), (4, 0), (5, 0), (0, 0), (0, 0)]
+LEFT, RIGHT = [(2, 0), (0, 0)], [(0, 2), (0, 0)]
 
 # Sheets with level lines: the name, the links and the points of 1, 2, .., and what documents 01 and 02 say of them.
 LEVEL_LINES = [
@@ -374,10 +380,10 @@ LEVEL_LINES = [
     ('level children at the ends of a row', TWO, [(32768, TOP), (0, TOP), (TOP, TOP)], 0),
     ('level children in the other order', TWO, [(1, 0), (2, 0), (0, 0)], 24),
     ('level children at the ends of a row in the other order', TWO, [(32768, TOP), (TOP, TOP), (0, TOP)], 24),
-    ('level children on the left, the left one nearer', TWO, [(2, 0), (1, 0), (0, 0)], 23),
-    ('level children on the left, the right one nearer', TWO, [(2, 0), (0, 0), (1, 0)], 23),
-    ('level children on the right, the left one nearer', TWO, [(0, 0), (1, 0), (2, 0)], 23),
-    ('level children on the right, the right one nearer', TWO, [(0, 0), (2, 0), (1, 0)], 23),
+    ('level children on the left, the left one nearer', TWO, [(2, 0), (1, 0), (0, 0)], 25),
+    ('level children on the left, the right one nearer', TWO, [(2, 0), (0, 0), (1, 0)], 25),
+    ('level children on the right, the left one nearer', TWO, [(0, 0), (1, 0), (2, 0)], 25),
+    ('level children on the right, the right one nearer', TWO, [(0, 0), (2, 0), (1, 0)], 25),
     ('the left child level to the left, the right one lower to the right', TWO, [(1, 0), (0, 0), (2, 1)], 0),
     ('the left child level to the left, the right one straight below', TWO, [(1, 0), (0, 0), (1, 1)], 0),
     ('the left child level to the left, the right one lower and farther left', TWO, [(2, 0), (1, 0), (0, 1)], 0),
@@ -393,32 +399,32 @@ LEVEL_LINES = [
     ('one child level and one above', TWO, [(1, 1), (0, 1), (2, 0)], 22),
     ('two level lines that go on in one row', PATH, [(0, 0), (1, 0), (2, 0)], 0),
     ('two level lines that go on to the left', PATH, [(2, 3), (1, 3), (0, 3)], 0),
-    ('a level line that goes back over the one to its parent', PATH, [(0, 0), (2, 0), (1, 0)], 23),
+    ('a level line that goes back over the one to its parent', PATH, [(0, 0), (2, 0), (1, 0)], 25),
     ('a level line that goes back to its grandparent', PATH, [(0, 0), (2, 0), (0, 0)], 21),
-    ('a level line that goes back beyond its grandparent', PATH, [(1, 0), (2, 0), (0, 0)], 23),
+    ('a level line that goes back beyond its grandparent', PATH, [(1, 0), (2, 0), (0, 0)], 25),
     ('two level lines apart in one row', FIVE, [(4, 0), (0, 1), (5, 1), (3, 1), (7, 1)], 0),
-    ('two level lines that overlap in one row', FIVE, [(4, 0), (0, 1), (2, 1), (3, 1), (7, 1)], 23),
-    ('two level lines that overlap in one row, one of them to the left', FIVE, [(4, 0), (0, 1), (7, 1), (3, 1), (2, 1)], 23),
-    ('two level lines that overlap in one row, both to the left', FIVE, [(4, 0), (3, 1), (7, 1), (0, 1), (2, 1)], 23),
-    ('two level lines in one row, one within the other', FIVE, [(4, 0), (0, 1), (2, 1), (7, 1), (3, 1)], 23),
-    ('two level lines that overlap at the end of the bottom row', FIVE, [(4, 0), (0, TOP), (TOP - 2, TOP), (TOP - 1, TOP), (TOP, TOP)], 23),
+    ('two level lines that overlap in one row', FIVE, [(4, 0), (0, 1), (2, 1), (3, 1), (7, 1)], 25),
+    ('two level lines that overlap in one row, one of them to the left', FIVE, [(4, 0), (0, 1), (7, 1), (3, 1), (2, 1)], 25),
+    ('two level lines that overlap in one row, both to the left', FIVE, [(4, 0), (3, 1), (7, 1), (0, 1), (2, 1)], 25),
+    ('two level lines in one row, one within the other', FIVE, [(4, 0), (0, 1), (2, 1), (7, 1), (3, 1)], 25),
+    ('two level lines that overlap at the end of the bottom row', FIVE, [(4, 0), (0, TOP), (TOP - 2, TOP), (TOP - 1, TOP), (TOP, TOP)], 25),
     ('two level lines with one end at one point', FIVE, [(4, 0), (0, 1), (7, 1), (3, 1), (3, 1)], 21),
     ('two level lines one above the other', FIVE, [(4, 0), (0, 1), (9, 2), (3, 1), (1, 2)], 0),
-    ('a level line through a node', FOUR, [(3, 0), (0, 2), (2, 2), (5, 2)], 23),
-    ('a level line through a node, to the left', FOUR, [(3, 0), (5, 2), (4, 2), (0, 2)], 23),
+    ('a level line through a node', FOUR, [(3, 0), (0, 2), (2, 2), (5, 2)], 25),
+    ('a level line through a node, to the left', FOUR, [(3, 0), (5, 2), (4, 2), (0, 2)], 25),
     ('a level line that ends a column before a node', FOUR, [(3, 0), (0, 2), (2, 2), (1, 2)], 0),
     ('a level line a row below a node', FOUR, [(3, 0), (0, 3), (2, 2), (5, 3)], 0),
-    ('a level line through the root', FOUR, [(3, 0), (0, 0), (4, 1), (5, 0)], 23),
-    ('a level line that touches a steep one with its end', FOUR, [(4, 0), (0, 4), (4, 8), (4, 4)], 23),
+    ('a level line through the root', FOUR, [(3, 0), (0, 0), (4, 1), (5, 0)], 25),
+    ('a level line that touches a steep one with its end', FOUR, [(4, 0), (0, 4), (4, 8), (4, 4)], 25),
     ('a level line that ends a column before a steep one', FOUR, [(4, 0), (0, 4), (4, 8), (3, 4)], 0),
     ('a level line that crosses a steep one', FOUR, [(4, 0), (0, 4), (4, 8), (5, 4)], 23),
-    ('a level line that touches a slanting one with its end', FOUR, [(2, 0), (0, 4), (6, 8), (4, 4)], 23),
+    ('a level line that touches a slanting one with its end', FOUR, [(2, 0), (0, 4), (6, 8), (4, 4)], 25),
     ('a level line that crosses a slanting one between columns', FOUR, [(2, 0), (0, 4), (5, 8), (4, 4)], 23),
     ('a level line that ends just before a slanting one that passes between columns', FOUR, [(2, 0), (0, 4), (5, 8), (3, 4)], 0),
-    ('a steep line that touches a level one with its end', FIVE, [(4, 0), (0, 4), (6, 1), (9, 4), (6, 4)], 23),
+    ('a steep line that touches a level one with its end', FIVE, [(4, 0), (0, 4), (6, 1), (9, 4), (6, 4)], 25),
     ('a steep line that ends a row above a level one', FIVE, [(4, 0), (0, 4), (6, 1), (9, 4), (6, 3)], 0),
-    ('a steep line from a node on a level one', FIVE, [(4, 0), (0, 4), (6, 4), (9, 4), (6, 9)], 23),
-    ('level children in the other order, and lines that overlap', FIVE, [(4, 0), (5, 0), (0, 0), (5, 1), (9, 0)], 23),
+    ('a steep line from a node on a level one', FIVE, [(4, 0), (0, 4), (6, 4), (9, 4), (6, 9)], 25),
+    ('level children in the other order, and lines that overlap', FIVE, [(4, 0), (5, 0), (0, 0), (5, 1), (9, 0)], 25),
 ]
 
 
@@ -430,14 +436,6 @@ def level_lines(t):
         t.numbers([0, 0] + [x for point in points for x in point])
         t.check()
         assert t.lines[-1] == 'check %d' % verdict, (name, t.lines[-1])
-
-
-def stored(points, record, records):
-    """The points of a tree's nodes as placements of its records."""
-    places = [0] * (2 * records)
-    for v in range(1, len(points)):
-        places[2 * record[v]], places[2 * record[v] + 1] = points[v]
-    return places
 
 
 def loose(tree, rng):
@@ -480,7 +478,7 @@ def check_case(rng, level=False):
         points = [(65535 - x, y) for x, y in points]
     for _ in range(max(0, way - 2)):
         points = moved(tree, points, rng)
-    return data, stored(points, record, len(data) // 8)
+    return data, trees.stored(points, record, len(data) // 8)
 
 
 def level_case(rng):
@@ -533,15 +531,15 @@ def large_checks(t, rng, points_of):
             points = stretched(tree, points_of(tree), rng)
             for _ in range(3):
                 t.table(data)
-                t.numbers(stored(points, record, len(data) // 8))
+                t.numbers(trees.stored(points, record, len(data) // 8))
                 t.check()
                 points = moved(tree, points, rng)
 
 
 def telling(t):
-    """For each slip of a drawing, a check, a stroke, a hang, a cut or a half of a hang, up to a dozen cases that tell it."""
-    makers = {'check': check_case, 'level': level_case, 'stroke': stroke_case, 'hang': hang_cut.hang_case, 'cut': hang_cut.cut_case,
-              'hold': halves.hold_case, 'held': halves.held_case}
+    """For each slip of a drawing, a check, a stroke, a hang, a cut, a half of a hang or a comparison, up to a dozen cases that tell it."""
+    makers = {'check': check_case, 'level': level_case, 'crossing': crossings.sheet_case, 'compare': crossings.pair_case, 'stroke': stroke_case,
+              'hang': hang_cut.hang_case, 'cut': hang_cut.cut_case, 'hold': halves.hold_case, 'held': halves.held_case}
     for kind, name, *changes in slips.SLIPS:
         if len(slips.CALLS[kind]) > 1:
             continue
@@ -558,16 +556,21 @@ def telling(t):
                 break
 
 
-def asked(t, kind, data, *more):
+def asked(t, kind, *case):
     """A case of a call, stored."""
+    if kind == 'compare':
+        t.compare(*case)
+        return
+    data, *more = case
     t.table(data)
-    if kind in ('check', 'level', 'stroke'):
+    if kind in ('check', 'level', 'crossing', 'stroke'):
         t.numbers(more[0])
         more = more[1:]
     elif kind in ('draw', 'wide'):
         t.filled(len(more[0]), *SEQUENCE)
         more = more[1:]
-    {'draw': t.draw, 'check': t.check, 'level': t.check, 'wide': t.wide, 'stroke': t.stroke, 'hang': t.hang, 'cut': t.cut, 'hold': t.hold, 'held': t.held}[kind](*more)
+    {'draw': t.draw, 'check': t.check, 'level': t.check, 'crossing': t.check, 'wide': t.wide, 'stroke': t.stroke, 'hang': t.hang, 'cut': t.cut, 'hold': t.hold,
+     'held': t.held}[kind](*more)
     if kind == 'draw':
         t.check()
 
@@ -591,8 +594,9 @@ def turned(t, rng):
 
 
 def random_trees(t, rng):
-    """Trees of every shape: drawn, checked, the larger ones asked for strokes; then a few placements of the drawing written over and checked again."""
-    pen = seeded('pen')
+    """Trees of every shape: drawn, checked, the larger ones asked for strokes; then a few placements of the drawing written over and checked again, in the large ones
+    so that lines cross, touch, and do both."""
+    pen, mouse = seeded('pen'), seeded('mouse')
     sizes = [rng.randint(2, 13) for _ in range(5)] + [rng.randint(14, 40) for _ in range(12)]
     sizes += [rng.randint(41, 90) for _ in range(3)] + [rng.randint(91, 250) for _ in range(1)]
     for name, make in trees.shapes(rng):
@@ -613,6 +617,8 @@ def random_trees(t, rng):
                 t.changed([(k, x), (k + 1, y)])
                 t.check()
                 t.changed([(k, before[0]), (k + 1, before[1])])
+            if n > 250 and name != 'random path':
+                crossings.planted(t, tree, record, mouse)
 
 
 def parts(t):
@@ -625,6 +631,12 @@ def parts(t):
         ('damaged tables', lambda: damaged(t, seeded('damaged'))),
         ('verdicts', lambda: verdicts(t, seeded('verdicts'))),
         ('level lines', lambda: level_lines(t)),
+        ('pairs of lines', lambda: crossings.pairs(t)),
+        ('every pair of lines on a small grid', lambda: crossings.every_pair(t, seeded('every pair'))),
+        ('random pairs of lines', lambda: crossings.random_pairs(t, seeded('pairs'), 600)),
+        ('crossings and touches', lambda: crossings.sheets(t)),
+        ('nodes on one straight line', lambda: crossings.straight(t, seeded('straight'))),
+        ('random checks of crossings and touches', lambda: random_checks(t, seeded('crossings'), 300, crossings.sheet_case)),
         ('random checks', lambda: random_checks(t, seeded('checks'), 400, check_case)),
         ('random checks of level lines', lambda: random_checks(t, seeded('level lines'), 300, level_case)),
         ('random strokes', lambda: random_strokes(t, seeded('strokes'))),
@@ -658,8 +670,8 @@ def main():
         f.write(b''.join(t.cases))
     with open(os.path.join(crate, 'stdout'), 'w', encoding='ascii', newline='\n') as f:
         f.write('\n'.join(t.lines) + '\n')
-    for name in ('draw', 'check', 'wide', 'stroke', 'hang', 'cut', 'hold', 'held'):
-        asked = [line.split() for line in t.lines if re.match(name + r' (refused )?(\d|done|lift|draw)', line)]
+    for name in ('draw', 'check', 'wide', 'stroke', 'hang', 'cut', 'hold', 'held', 'compare'):
+        asked = [line.split() for line in t.lines if re.match(name + r' (refused )?(\d|done|lift|draw|%s)' % '|'.join(COMPARED), line)]
         asked = [words[2] if words[1] == 'refused' else '0' if name in ('wide', 'hang', 'hold') else words[1] for words in asked]
         print(name, len(asked), *('%s:%d' % (a, asked.count(a)) for a in sorted(set(asked), key=lambda a: (len(a), a))))
     print('width', sum(line.startswith('width ') for line in t.lines))

@@ -3,8 +3,8 @@
 
 A slip is a change of a line or two of the reference program, made in memory; the file itself stays as it is.
 Only cases of the call that the slip is of are counted; a slip of the table, its free chain too, has to be told by every call, and one of the placements by every
-call that is lent some. make_trials.py seeks cases that tell each slip of a drawing, a check (of level lines with sheets of such lines), a stroke, a hang, a cut or a
-half of a hang (hold, and hang held), and stores what the unchanged program says of them.
+call that is lent some. make_trials.py seeks cases that tell each slip of a drawing, a check (of level lines with sheets of such lines, of crossings and touches with
+sheets of those), a stroke, a hang, a cut, a half of a hang (hold, and hang held) or a comparison of two lines, and stores what the unchanged program says of them.
 """
 import os
 import sys
@@ -15,8 +15,8 @@ crate = os.path.join(os.path.dirname(here), 'crates', 'trials')
 UPTO = int(open(os.path.join(here, 'upto')).read())     # requests 1 to UPTO of document 02 are in force
 
 # The calls of the reference program whose answers a kind of slip changes.
-CALLS = {'draw': ['draw'], 'check': ['check'], 'level': ['check'], 'wide': ['draw_wide'], 'stroke': ['stroke'], 'hang': ['hang'], 'cut': ['cut'],
-         'hold': ['hold'], 'held': ['hang_held'], 'table': ['draw', 'check', 'draw_wide', 'stroke', 'hang', 'cut', 'hold', 'hang_held'],
+CALLS = {'draw': ['draw'], 'check': ['check'], 'level': ['check'], 'crossing': ['check'], 'compare': ['compare'], 'wide': ['draw_wide'], 'stroke': ['stroke'],
+         'hang': ['hang'], 'cut': ['cut'], 'hold': ['hold'], 'held': ['hang_held'], 'table': ['draw', 'check', 'draw_wide', 'stroke', 'hang', 'cut', 'hold', 'hang_held'],
          'placements': ['draw', 'check', 'draw_wide', 'stroke']}
 
 TIE = 'size[L[v]] >= size[R[v]]'
@@ -37,7 +37,30 @@ EQUAL = 'if upto < 4 and at[c][1] == at[b][1]'
 LEVEL = 'level = upto >= 4 and b == 0 and d == 0 and a < 0 and c > 0'
 ORDER = 'if not (a * d - b * c < 0 or level)'
 TOUCH = 'if kind == TOUCHING:'
+CROSSED, TOUCHED = 'if crossing:\n            return 23', 'if touching or box_on_a_line(spans, at):\n            return 25'
+SAME, SAME_LATE = 'if len(set(at.values())) != len(t.chain):\n        return 21', 'late = 21 if len(set(at.values())) != len(t.chain) else 0'
+ABOVE_LATE = 'if at[c][1] < at[b][1]:\n            late = 22\n        if False:'
+UNORDERED = 'return 24\n    return 0'
+ON_ONE = 'if upto < 7:\n                break'
+SEARCH, SEEN = 'in near_pairs(spans):', 'crossing = touching = False'
+SOUGHT = 'if kind == CROSSING:'
 OFF_LEVEL = ON + ' at[line[0]][1] != at[line[1]][1] and'            # no node is held against a level line
+KINDS = 'SEPARATE, SHARED_END, CROSSING, TOUCHING = 0, 1, 2, 3'
+LINE_BY_LINE = 'u, v = minus(Q, P), minus(S, R)'
+MINUS = 'return (p[0] - q[0], p[1] - q[1])'
+BOUNDS = 'if not (0 <= s <= q and 0 <= t <= q):'
+INSIDE = 'if 0 < s < q and 0 < t < q:'
+ON_GRID = 's * u[0] % q == 0 and s * u[1] % q == 0'
+ENDS = 'if s in (0, q) and t in (0, q):'
+TOUCH_AT = 'return TOUCHING\n\n    # Parallel'                        # an end of the one inside the other, not parallel
+DIRECTION = 'd = u if u != (0, 0) else v'
+POINTS_TWO = 'return SHARED_END if P == R else SEPARATE'
+BESIDE = 'if times(d, minus(R, P)) != 0:'
+ALONG = 'return (X[0] - P[0]) * d[0] + (X[1] - P[1]) * d[1]'
+GAP = 'if first > last:'
+IN_LINE = 'if first == last and first in (p, q) and first in (r, s):'
+OVERLAP = 'return TOUCHING\n\n\ndef cross'                            # parallel, or a point inside a line
+A_POINT = '(u == (0, 0)) != (v == (0, 0))'
 LINES = '[(b, c) for b in t.chain for c in (t.left[b], t.right[b]) if c != 0]'
 LIFTED, DRAWN_TO = 'strokes.append((LIFT, parent))', 'strokes.append((DRAW, child))'
 FIRST = 'in millimetres as exact fractions)"""\n'
@@ -132,6 +155,38 @@ PLACING = [
 ]
 
 
+def overlap(kind, cause='True'):
+    """Another kind for lines of one straight line that share more than an end, or for a point inside a line, where that cause holds."""
+    return OVERLAP, OVERLAP.replace('TOUCHING', '%s if %s else TOUCHING' % (kind, cause))
+
+
+def touch(kind, cause='True'):
+    """Another kind for an end of a line inside another that is not parallel, where that cause holds."""
+    return TOUCH_AT, TOUCH_AT.replace('TOUCHING', '%s if %s else TOUCHING' % (kind, cause))
+
+
+# Slips of a comparison of two lines that a check tells as well.
+MEETING = [
+    ('a touch is called a crossing', *touch('CROSSING')),
+    ('an end of the first line inside the second is called a crossing', *touch('CROSSING', 's in (0, q)')),
+    ('an end of the second line inside the first is called a crossing', *touch('CROSSING', 't in (0, q)')),
+    ('an overlap is called a crossing', *overlap('CROSSING')),
+    ('an overlap with a shared end is called a crossing', *overlap('CROSSING', 'first in (p, q) and first in (r, s) or last in (p, q) and last in (r, s)')),
+    ('an overlap without a shared end is called a crossing', *overlap('CROSSING', 'len({p, q, r, s}) == 4')),
+    ('a crossing is called a touch', INSIDE, INSIDE + '\n            return TOUCHING\n        if False:'),
+    ('a crossing in a grid point is called a touch', INSIDE, 'if 0 < s < q and 0 < t < q and %s:\n            return TOUCHING\n        ' % ON_GRID + INSIDE),
+    ('a crossing between grid points is not seen', INSIDE, 'if 0 < s < q and 0 < t < q and not (%s):\n            return SEPARATE\n        ' % ON_GRID + INSIDE),
+    ('a crossing in a grid point is not seen', INSIDE, 'if 0 < s < q and 0 < t < q and %s:\n            return SEPARATE\n        ' % ON_GRID + INSIDE),
+    ('inside one line is enough for a crossing', INSIDE, INSIDE.replace('and', 'or')),
+    ('inside the first line is enough for a crossing', INSIDE, 'if 0 < s < q:'),
+    ('inside the second line is enough for a crossing', INSIDE, 'if 0 < t < q:'),
+    ('the first line goes on beyond its ends', BOUNDS, 'if not 0 <= t <= q:', INSIDE, 'if s not in (0, q) and 0 < t < q:'),
+    ('the second line goes on beyond its ends', BOUNDS, 'if not 0 <= s <= q:', INSIDE, 'if 0 < s < q and t not in (0, q):'),
+    ('products cut to 32 bits', TIMES, 'return to32(u[0] * v[1] - u[1] * v[0])'),
+    ('differences cut to 16 bits', MINUS, 'return tuple((a - b + 2 ** 15) % 2 ** 16 - 2 ** 15 for a, b in zip(p, q))'),
+]
+
+
 def early(read):
     """Slips of 9 and 10, told before what the table itself gives, at the line that tells that."""
     return [(name, read, read.replace('t.refusal', sooner + ' else t.refusal')) for name, sooner in (
@@ -205,7 +260,92 @@ SLIPS = [
      'kind = at[b][1] == at[c][1] and at[c] < at[b] or at[e][1] == at[f][1] and at[f] < at[e] or compare(', ON, OFF_LEVEL),
     ('level', 'a level line may touch another line', TOUCH, TOUCH.replace(':', ' and at[b][1] != at[c][1] and at[e][1] != at[f][1]:'), ON, OFF_LEVEL),
     ('level', 'a level line may touch one that is not level', TOUCH, TOUCH.replace(':', ' and (at[b][1] == at[c][1]) == (at[e][1] == at[f][1]):'), ON, OFF_LEVEL),
-    ('level', 'a level line may cross another', 'if kind == CROSSING:', 'if kind == CROSSING and at[b][1] != at[c][1] and at[e][1] != at[f][1]:'),
+    ('level', 'a level line may cross another', SOUGHT, SOUGHT.replace(':', ' and at[b][1] != at[c][1] and at[e][1] != at[f][1]:')),
+    *[('crossing', *slip) for slip in MEETING],
+    ('crossing', '25 is never given, 23 as before', TOUCHED, TOUCHED.replace('25', '23')),
+    ('crossing', '23 is never given', CROSSED, CROSSED.replace('23', '25')),
+    ('crossing', '23 and 25 are traded', CROSSED, CROSSED.replace('23', '25'), TOUCHED, TOUCHED.replace('25', '23')),
+    ('crossing', '25 before 23', CROSSED, TOUCHED + '\n        ' + CROSSED),
+    ('crossing', '23 only where no lines touch', CROSSED, CROSSED.replace('crossing', 'crossing and not box_on_a_line(spans, at)')),
+    ('crossing', 'crossings are not seen', CROSSED, 'crossing = False'),
+    ('crossing', 'touches are not seen', TOUCHED, 'touching = False'),
+    ('crossing', 'the search stops at the first fault', ON_ONE, 'break'),
+    ('crossing', 'the search stops at the first fault, lines by parent in chain order', ON_ONE, 'break',
+     SEARCH, SEARCH.replace('near_pairs(spans)', 'by_chain(near_pairs(spans), lines)')),
+    ('crossing', 'the search stops at the first fault, lines by parent in chain order from the end', ON_ONE, 'break',
+     SEARCH, SEARCH.replace('near_pairs(spans)', 'by_chain(near_pairs(spans), lines[::-1])')),
+    ('crossing', 'the search stops at the first fault, from the bottom', ON_ONE, 'break', SEARCH, SEARCH.replace('near_pairs(spans)', 'list(near_pairs(spans))[::-1]')),
+    ('crossing', 'of each line only the first fault is told',
+     SEARCH, SEARCH.replace('near_pairs(spans)', '((l, m) for l, m in near_pairs(spans) if not {l, m} & FILE[0])'),
+     SEEN, SEEN + '; FILE[0] = set()', ON_ONE, 'FILE[0].update(((b, c), (e, f)))'),
+    ('crossing', 'only the last fault is told', SOUGHT, SOUGHT.replace(':', ':\n            crossing, touching = True, False\n        if False:'),
+     TOUCH, TOUCH + '\n            crossing = False'),
+    ('crossing', 'a crossing where a node is, is a touch', SOUGHT,
+     SOUGHT.replace(':', ' and not any(on_line(at[x], at[b], at[c]) and on_line(at[x], at[e], at[f]) for x in at if x not in (b, c, e, f)):')),
+    ('crossing', 'a line that touches two others crosses them', SEEN, SEEN + '; FILE[0] = set()',
+     TOUCH, TOUCH + '\n            crossing |= bool({(b, c), (e, f)} & FILE[0]); FILE[0].update(((b, c), (e, f)))'),
+    ('crossing', 'a node on a line that it does not end is not seen', TOUCH, TOUCH.replace(':', ' and {b, c} & {e, f}:'), ON, 'if False and'),
+    ('crossing', 'an overlap of lines from one node is not seen', TOUCH, TOUCH.replace(':', ' and b != e:'), ON, 'if False and'),
+    ('crossing', '24 before 25', TOUCHED, 'late = touching or box_on_a_line(spans, at)', UNORDERED, UNORDERED.replace('0', '25 if late else 0')),
+    ('crossing', '24 before 23', CROSSED, 'late = crossing', TOUCHED, TOUCHED.replace('if', 'if not crossing and (').replace(':', '):'),
+     UNORDERED, UNORDERED.replace('0', '23 if late else 0')),
+    ('crossing', '25 before 22', SAME, 'late = 0\n    ' + SAME, ABOVE, ABOVE_LATE, CROSSED, CROSSED.replace('23', 'late or 23'),
+     TOUCHED, TOUCHED + '\n        if late:\n            return late'),
+    ('crossing', '23 before 22', SAME, 'late = 0\n    ' + SAME, ABOVE, ABOVE_LATE, CROSSED, CROSSED + '\n        if late:\n            return late'),
+    ('crossing', '25 before 21', SAME, SAME_LATE, CROSSED, CROSSED.replace('23', 'late or 23'), TOUCHED, TOUCHED + '\n        if late:\n            return late'),
+    ('crossing', '23 before 21', SAME, SAME_LATE, CROSSED, CROSSED + '\n        if late:\n            return late'),
+    *[('compare', *slip) for slip in MEETING],
+    ('compare', 'separate and a shared end are traded', KINDS, KINDS.replace('0, 1', '1, 0')),
+    ('compare', 'a shared end and touching are traded', KINDS, KINDS.replace('1, 2, 3', '3, 2, 1')),
+    ('compare', 'crossing and touching are traded', KINDS, KINDS.replace('2, 3', '3, 2')),
+    ('compare', 'lines beyond their ends touch', BOUNDS, 'if False:'),
+    ('compare', 'the ends are no part of the first line', BOUNDS, BOUNDS.replace('0 <= s <= q', '0 < s < q')),
+    ('compare', 'the ends are no part of the second line', BOUNDS, BOUNDS.replace('0 <= t <= q', '0 < t < q')),
+    ('compare', 'the first end is no part of the first line', BOUNDS, BOUNDS.replace('0 <= s', '0 < s')),
+    ('compare', 'the last end is no part of the first line', BOUNDS, BOUNDS.replace('s <= q', 's < q')),
+    ('compare', 'the first end is no part of the second line', BOUNDS, BOUNDS.replace('0 <= t', '0 < t')),
+    ('compare', 'the last end is no part of the second line', BOUNDS, BOUNDS.replace('t <= q', 't < q')),
+    ('compare', 'an end of the first line inside the second is not seen', *touch('SEPARATE', 's in (0, q)')),
+    ('compare', 'an end of the second line inside the first is not seen', *touch('SEPARATE', 't in (0, q)')),
+    ('compare', 'an end of one line is enough for a shared end', ENDS, ENDS.replace('and', 'or')),
+    ('compare', 'end to end at an angle is called a touch', ENDS, 'if False:'),
+    ('compare', 'a shared end is the first end of both', ENDS, 'if s == 0 and t == 0:'),
+    ('compare', 'a shared end is the same end of both', ENDS, 'if s == t and s in (0, q):'),
+    ('compare', 'a shared end is the last of the first line and the first of the second', ENDS, 'if s == q and t == 0:'),
+    ('compare', 'parallel lines are separate', DIRECTION, 'return SEPARATE\n    ' + DIRECTION),
+    ('compare', 'parallel lines touch', BESIDE, BESIDE + '\n        return TOUCHING\n    if False:'),
+    ('compare', 'parallel lines beside each other overlap', BESIDE, 'if False:'),
+    ('compare', 'lines of one straight line are never separate', GAP, 'if False:'),
+    ('compare', 'lines of one straight line that have no shared end are separate', *overlap('SEPARATE', 'not {p, q} & {r, s}')),
+    ('compare', 'end to end in line is called a touch', IN_LINE, 'if False:'),
+    ('compare', 'end to end in line is called separate', GAP, GAP.replace('>', '>=')),
+    ('compare', 'an overlap is called a shared end', *overlap('SHARED_END', 'u != (0, 0) != v')),
+    ('compare', 'an overlap with a shared end is called a shared end', *overlap('SHARED_END', '{p, q} & {r, s}')),
+    ('compare', 'the same line is called a shared end', *overlap('SHARED_END', '{p, q} == {r, s}')),
+    ('compare', 'the same line is called a crossing', *overlap('CROSSING', '{p, q} == {r, s}')),
+    ('compare', 'the same line the other way is called a crossing', *overlap('CROSSING', '(p, q) == (s, r)')),
+    ('compare', 'a line within the other is not seen', *overlap('SEPARATE', 'min(p, q) < min(r, s) and max(r, s) < max(p, q)')),
+    ('compare', 'a line around the other is not seen', *overlap('SEPARATE', 'min(r, s) < min(p, q) and max(p, q) < max(r, s)')),
+    ('compare', 'places along a line by columns alone', ALONG, 'return X[0]'),
+    ('compare', 'places along a line by rows alone', ALONG, 'return X[1]'),
+    ('compare', 'places along a line cut to 32 bits', ALONG, ALONG.replace('return ', 'return to32(') + ')'),
+    ('compare', 'a point inside a line is called a crossing', *overlap('CROSSING', A_POINT)),
+    ('compare', 'a point inside a line is called a shared end', *overlap('SHARED_END', A_POINT)),
+    ('compare', 'a point inside a line is called separate', *overlap('SEPARATE', A_POINT)),
+    ('compare', 'a point at an end of a line is called a touch', IN_LINE, IN_LINE.replace(':', ' and not (%s):' % A_POINT)),
+    ('compare', 'a point at an end of a line is called separate', GAP, GAP.replace(':', ' or first == last and first in (p, q) and first in (r, s) and (%s):' % A_POINT)),
+    ('compare', 'a point beyond a line touches it', GAP, GAP.replace(':', ' and not (%s):' % A_POINT)),
+    ('compare', 'a point beside a line touches it', BESIDE, 'if not (%s) and' % A_POINT + BESIDE[2:], GAP, GAP.replace(':', ' and not (%s):' % A_POINT)),
+    ('compare', 'a point for the first line is held against the first end of the second', DIRECTION, 'd = u'),
+    ('compare', 'a point for the second line is held against the first end of the first', DIRECTION, 'd = v'),
+    ('compare', 'two points are always separate', POINTS_TWO, 'return SEPARATE'),
+    ('compare', 'two points always meet', POINTS_TWO, 'return SHARED_END'),
+    ('compare', 'two points at one place touch', POINTS_TWO, POINTS_TWO.replace('SHARED_END', 'TOUCHING')),
+    ('compare', 'two points in one column meet', POINTS_TWO, POINTS_TWO.replace('P == R', 'P[0] == R[0]')),
+    ('compare', 'two points in one row meet', POINTS_TWO, POINTS_TWO.replace('P == R', 'P[1] == R[1]')),
+    ('compare', 'the lines from 1 to 3 and from 2 to 4', LINE_BY_LINE, 'Q, R = R, Q\n    ' + LINE_BY_LINE),
+    ('compare', 'the lines from 1 to 4 and from 2 to 3', LINE_BY_LINE, 'Q, S = S, Q\n    ' + LINE_BY_LINE),
+    *[('compare', 'column and row of point %d are traded' % k, LINE_BY_LINE, '%s = %s[::-1]\n    ' % (p, p) + LINE_BY_LINE) for k, p in enumerate('PQRS', 1)],
     ('stroke', 'right before left', LINES, LINES.replace('(t.left[b], t.right[b])', '(t.right[b], t.left[b])')),
     ('stroke', 'lines in the order of the records', LINES, LINES.replace('in t.chain', 'in sorted(t.chain)')),
     ('stroke', 'lines in the order of the tree', LINES, LINES.replace('in t.chain', 'in preorder(t.roots, t.left, t.right)')),
@@ -350,6 +490,12 @@ SLIPS = [
 ]
 
 
+def by_chain(pairs, lines):
+    """Pairs of lines by the later of the two in such an order, then by the earlier."""
+    place = {line: i for i, line in enumerate(lines)}
+    return sorted(pairs, key=lambda pair: sorted((place[line] for line in pair), reverse=True))
+
+
 def reference(changes):
     """The reference program with some lines changed and its assertions off."""
     source = open(os.path.join(here, 'reference', 'racksheet.py'), encoding='utf-8').read()
@@ -365,7 +511,7 @@ def reference(changes):
             return f(*a)
         finally:
             deep[0] -= 1
-    used = {'FILE': [None], 'DEEP': deep, 'deeper': deeper, 'to32': lambda x: (x + 2 ** 31) % 2 ** 32 - 2 ** 31}
+    used = {'FILE': [None], 'DEEP': deep, 'deeper': deeper, 'by_chain': by_chain, 'to32': lambda x: (x + 2 ** 31) % 2 ** 32 - 2 ** 31}
     module.__dict__.update(used)
     exec(compile(source, 'racksheet', 'exec', optimize=1), module.__dict__)
     assert all(module.__dict__[name] is thing for name, thing in used.items()), 'a name of the program itself'
@@ -375,7 +521,7 @@ def reference(changes):
 def answer(program, ask, *case):
     """What a program says; one that breaks off says so."""
     try:
-        return getattr(program, ask)(*case, UPTO)
+        return getattr(program, ask)(*case, *[UPTO] * (ask != 'compare'))
     except Exception as e:
         return repr(e)
 
@@ -396,13 +542,13 @@ def given(kind, count, first, step, numbers, places):
 
 
 def cases():
-    """Every call on a table in the stored stream: which, and what it is lent and given, as it stands before the call."""
+    """Every call in the stored stream, but of the allowed width: which, and what it is lent and given, as it stands before the call."""
     data = open(os.path.join(crate, 'stdin'), 'rb').read()
     right = reference([])
     at, table, places = 0, b'', []
     while at < len(data):
         kind, count, first, step = words(data[at:at + 8])
-        more = data[at + 8:at + 8 + {1: count, 2: 2 * count, 4: 4 * count, 9: 8, 10: count, 14: 8}.get(kind, 0)]
+        more = data[at + 8:at + 8 + {1: count, 2: 2 * count, 4: 4 * count, 9: 8, 10: count, 14: 8, 15: 16}.get(kind, 0)]
         at += 8 + len(more)
         if kind == 1:
             table = more
@@ -428,11 +574,14 @@ def cases():
             asked = count, first, step, words(more)[0]
             yield 'hang_held', table, *asked
             table = right.hang_held(table, *asked, UPTO)[1]
+        elif kind == 15:
+            numbers = words(more)
+            yield 'compare', *zip(numbers[::2], numbers[1::2])
 
 
 def main():
-    asked = list(cases())
-    right = [answer(reference([]), *case) for case in asked]
+    asked, program = list(cases()), reference([])
+    right = [answer(program, *case) for case in asked]
     missed = 0
     for kind, name, *changes in SLIPS:
         wrong = reference(changes)

@@ -180,6 +180,14 @@ def packed(words):
     return b''.join(w.to_bytes(2, 'little') for record in words for w in record)
 
 
+def stored(points, record, records):
+    """The points of a tree's nodes as placements of its records."""
+    places = [0] * (2 * records)
+    for v in range(1, len(points)):
+        places[2 * record[v]], places[2 * record[v] + 1] = points[v]
+    return places
+
+
 def layers(tree):
     """A good drawing that fits any tree: the column is the place in order from left to right, the row the depth."""
     points = [(0, 0)] * (tree.n + 1)
@@ -208,3 +216,17 @@ def level_runs(tree, rng, wrong=0.0):
             elif c:
                 row[c] = row[v] + 1
     return [(column, r) for (column, _), r in zip(points, row)]
+
+
+def tangled(tree, rng):
+    """Any of a few columns, and each child level with its parent or a row or two below, no two nodes at one point: lines that cross and touch."""
+    columns, parent = rng.randint(3, 3 + tree.n // 2), [0] * (tree.n + 1)
+    for v in range(1, tree.n + 1):
+        parent[tree.left[v]] = parent[tree.right[v]] = v
+    points = [(0, 0)]
+    for v in range(1, tree.n + 1):
+        column, row = rng.randrange(columns), points[parent[v]][1] + rng.choice((0, 1, 1, 2)) if v > 1 else 0
+        while (column, row) in points[1:]:
+            column, row = rng.randrange(columns), row + rng.randint(0, 1)
+        points.append((column, row))
+    return points

@@ -1,10 +1,15 @@
 -- Answers in one number, and a point in two floats that the caller lends, for languages without a struct or an enum of ours.
+use mathlib.Core.Path.{_≡_}
 use mathlib.Core.Bool.{cond}
 use mathlib.Core.List.{List, _++_}
 use Prim.Native.Nat.{ℕ, _+_, _*_, _^_}
 use lib.Dec.{leb}
 use lib.ListN.{length, getD, drop}
 use lib.Ieee.{Float}
+use Rattle.segment.specs.declared.Point.{Point}
+use Rattle.segment.specs.declared.meeting.Meeting.{Meeting}
+use Rattle.segment.specs.declared.meeting.Meeting.the-variants.{Separate, SharedEnd, Crossing, Touching}
+use Rattle.segment.specs.Meeting.{MeetSo}
 use Rattle.table.specs.Said.{Said}
 use Rattle.drawing.specs.declared.Drawn.{Drawn}
 
@@ -19,3 +24,16 @@ packedSaid s = s .number + 2 ^ 16 * getD (s .values) 0 0 + 2 ^ 32 * getD (s .val
 -- What is lent for a point, afterwards: the point in front, where there is room for two floats; where there is less, or no point, all is kept.
 unfoldable pub overwritten : List Float → List Float → List Float
 overwritten point lent = cond (leb 2 (length lent)) (point ++ drop (length point) lent) lent
+
+-- The comparison's: 0 separate, 1 at a shared end only, 2 crossing, 3 touching.
+abbrev pub meetingNumber : Meeting → ℕ
+meetingNumber Separate = 0
+meetingNumber SharedEnd = 1
+meetingNumber Crossing = 2
+meetingNumber Touching = 3
+
+-- n is the number of the kind in which the lines from P to Q and from R to S meet; there is one (`some-kind`, `one-kind` in segment/proofs/FourKinds).
+pub record Compared (P Q R S : Point) (n : ℕ) : Type 0 where
+  pub kind : Meeting
+  pub so : MeetSo kind P Q R S
+  pub number : n ≡ meetingNumber kind

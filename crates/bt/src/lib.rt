@@ -8,6 +8,9 @@ use hanging::hold;
 use pen::points::PenPoint;
 use pen::stroke;
 use pen::strokes::Stroke;
+use segment::Point;
+use segment::meeting::Meeting;
+use segment::meeting::compare;
 use sweep::line::widened;
 use wide::Wide;
 use wide::draw_wide;
@@ -18,10 +21,11 @@ ghost use Rattle.hanging.specs.Hanging.{said, hangSays, afterHang};
 ghost use Rattle.hanging.specs.Holding.{heldRefusal, afterHeld};
 ghost use Rattle.hanging.specs.Cutting.{cutRefusal, afterCut};
 ghost use Rattle.pen.specs.Strokes.{told, strokeOf};
+ghost use Rattle.segment.specs.Segment.{at};
 ghost use Rattle.verdict.specs.Verdict.{Verdict};
 ghost use Rattle.width.specs.Allowed.{allowedWidth};
 ghost use Rattle.wide.specs.Wide.{wideOf, widePlacedIn};
-ghost use Rattle.bt.specs.Packed.{packed, packedSaid, overwritten};
+ghost use Rattle.bt.specs.Packed.{packed, packedSaid, overwritten, meetingNumber, Compared};
 
 fn pack_drawn(drawn: Drawn) -> u64
     ensures { λ r. ⌜ r ≡ packed drawn ⌝ }
@@ -58,6 +62,50 @@ pub extern "C" fn bt_check(table: &[u8], placements: &[u16]) -> u32
     ensures { λ r. ⌜ Verdict (now (table .entry)) (now (placements .entry)) r ⌝ }
 {
     verdict::check(table, placements) as u32
+}
+
+// The number of a meeting.
+fn meeting_number(m: Meeting) -> u32
+    ensures { λ r. ⌜ r ≡ meetingNumber m ⌝ }
+{
+    match m {
+        Meeting::Separate => 0,
+        Meeting::SharedEnd => 1,
+        Meeting::Crossing => 2,
+        Meeting::Touching => 3,
+    }
+}
+
+#[no_mangle]
+pub extern "C" fn bt_compare(
+    c1: u16,
+    r1: u16,
+    c2: u16,
+    r2: u16,
+    c3: u16,
+    r3: u16,
+    c4: u16,
+    r4: u16,
+) -> u32
+    ensures { λ n. ⌜ Compared (at c1 r1) (at c2 r2) (at c3 r3) (at c4 r4) n ⌝ }
+{
+    let p = Point {
+        column: c1,
+        row: r1,
+    };
+    let q = Point {
+        column: c2,
+        row: r2,
+    };
+    let r = Point {
+        column: c3,
+        row: r3,
+    };
+    let s = Point {
+        column: c4,
+        row: r4,
+    };
+    meeting_number(compare(p, q, r, s))
 }
 
 #[no_mangle]

@@ -22,8 +22,9 @@ use Rattle.drawing.specs.declared.Drawn.{Drawn}
 use Rattle.drawing.proofs.StoredPoints.{times, store-length, store-point}
 use Rattle.drawing.proofs.Answered.{Accepted, accepted, drawn-refusal}
 use Rattle.verdict.specs.Points.{pointOf}
-use Rattle.verdict.specs.Conditions.{SamePoint, ChildAbove, Touching, OutOfOrder}
+use Rattle.verdict.specs.Conditions.{SamePoint, ChildAbove, Clashing, OutOfOrder}
 use Rattle.verdict.specs.Verdict.{FirstOf, conditions, Verdict}
+use Rattle.verdict.proofs.Clashes.{cross→clash}
 use Rattle.width.specs.Allowed.{floorLog2, allowedWidth}
 use Rattle.width.proofs.FloorLog2.{floor-bounds, allowed-some}
 use Rattle.guarantee.specs.Demand.{Kept}
@@ -38,17 +39,17 @@ module _ (t p : List ℕ) (ok : fault t ≡ 0) (z : Checked (tree t) (pointOf p)
   none-above : ChildAbove t p → ⊥
   none-above h = let l = z .lower (h .k) (h .c) (h .s) (line-child t ok (h .line)) in omega (arith, l, h .above)
 
-  no-touch : Touching t p → ⊥
-  no-touch (inl h) =
+  no-clash : Clashing t p → ⊥
+  no-clash (inl h) =
       let (b, e, f, x, y) = z .planar (h .k) (h .c) (h .m) (h .d) (h .s) (h .s′) (line-child t ok (h .line)) (line-child t ok (h .line′)) (h .different) (h .q) (h .x) (h .y) (h .q≥1) (h .on-line) (h .on-line′) in
       h .elsewhere b e f (record { in-column = x; in-row = y })
-  no-touch (inr h) = h .no-end (z .clear (h .b) (h .k) (h .c) (h .s) (chained-node t ok (h .b) (h .chained)) (line-child t ok (h .line)) (h .lies .q) (h .lies .q≥1) (h .lies .on))
+  no-clash (inr h) = h .no-end (z .clear (h .b) (h .k) (h .c) (h .s) (chained-node t ok (h .b) (h .chained)) (line-child t ok (h .line)) (h .lies .q) (h .lies .q≥1) (h .lies .on))
 
   in-order : OutOfOrder t p → ⊥
   in-order h = h .not-ordered (inl (cross-negative _ _ _ .1 (z .ordered (h .k) (h .a) (h .b) (line-child t ok (h .left-line)) (line-child t ok (h .right-line)))))
 
   good : FirstOf (conditions t p) 0
-  good = inr (not-same, inr (none-above, inr (no-touch, inr (in-order, refl))))
+  good = inr (not-same, inr (none-above, inr (λ h. no-clash (cross→clash h), inr (no-clash, inr (in-order, refl)))))
 
 -- ---- the drawing's points are read back
 

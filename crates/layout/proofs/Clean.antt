@@ -1,4 +1,4 @@
--- The conditions 21 to 24 of document 01 ("What the sheet check says") over a layout: the record `Clean`.
+-- The conditions 21 to 25 (document 01, "What the sheet check says"; document 02, Paper 7) over a layout: the record `Clean`.
 -- Nodes and edges go by the way to them from the root, not by their records.
 use mathlib.Core.Path.{_≡_}
 use mathlib.Core.Logic.{_⊎_, _≢_}
@@ -78,7 +78,7 @@ pub record Clean (L : Layout) : Type 0 where
   pub distinct : (n m : Node L) → point n ≡ point m → n ≡ m
   -- more than 22 asks: never level
   pub lower : (l : Edge L) → point (parent l) .row < point (child l) .row
-  -- 23
+  -- 23 and 25
   pub planar : (l m : Edge L) → l ≢ m → (q x y : ℕ) → 1 ≤ q → OnEdge l q x y → OnEdge m q x y → (n : Node L) × Ends n l × Ends n m × Is (point n) q x y
   pub clear : (n : Node L) (l : Edge L) (q : ℕ) → 1 ≤ q → OnEdge l q (q * point n .column) (q * point n .row) → Ends n l
   -- 24

@@ -133,7 +133,7 @@ lower : {L : Layout} → Untangled L → (l : Edge L) → point (parent l) .row 
 lower (fork c d j o) (edge s h) = low-top (low j s) h
 lower (fork c d j o) (below s l) = lower (untangled c d s) l
 
--- 23
+-- 23 and 25
 share-end : {L : Layout} {l m : Edge L} {q x y : ℕ} → l ≢ m → Meet l m q x y → (n : Node L) × Ends n l × Ends n m × Is (point n) q x y
 share-end d (same alike) = absurd (d refl)
 share-end d (common n e f z) = (n, e, f, z)

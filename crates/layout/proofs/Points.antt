@@ -1,4 +1,4 @@
--- The points of a drawing, and `Untangled`: the form of 21 to 24 in which the argument goes, by induction over the layout.
+-- The points of a drawing, and `Untangled`: the form of 21 to 25 in which the argument goes, by induction over the layout.
 -- An untangled drawing has its root alone in its top row (`under-top`), and a drawing's points are in the rectangle of its nodes (`point-within`). Rests on the
 -- weights of a point of a segment.
 use mathlib.Core.Path.{_≡_, ap, subst, _∙_}

@@ -1,4 +1,4 @@
--- The conditions 21 to 24 in records (`Checked`): a plan gives each record a point, and a tree says which records are nodes and which are ends of an edge.
+-- The conditions 21 to 25 in records (`Checked`): a plan gives each record a point, and a tree says which records are nodes and which are ends of an edge.
 -- Any plan that gives the nodes of a tree the points of its drawing passes (`drawn-checked`).
 use mathlib.Core.Path.{_≡_, refl, ap, sym, subst, subst₂, _∙_}
 use mathlib.Core.Logic.{_⊎_, ⊎-map, _≢_}
@@ -35,7 +35,7 @@ pub record Checked (t : Tree) (plan : ℕ → Point) : Type 0 where
   pub distinct : (k m : ℕ) → IsNode k t → IsNode m t → k ≢ m → plan k ≢ plan m
   -- more than 22 asks: never level
   pub lower : (k c : ℕ) (s : Side) → Child k c s t → plan k .row < plan c .row
-  -- 23
+  -- 23 and 25
   pub planar : (k c m d : ℕ) (s u : Side) → Child k c s t → Child m d u t → ¬ ((k ≡ m) × (c ≡ d)) → (q x y : ℕ) → 1 ≤ q → On (plan k) (plan c) q x y → On (plan m) (plan d) q x y →
       (b : ℕ) × ((b ≡ k) ⊎ (b ≡ c)) × ((b ≡ m) ⊎ (b ≡ d)) × (x ≡ q * plan b .column) × (y ≡ q * plan b .row)
   pub clear : (b k c : ℕ) (s : Side) → IsNode b t → Child k c s t → (q : ℕ) → 1 ≤ q → On (plan k) (plan c) q (q * plan b .column) (q * plan b .row) → (b ≡ k) ⊎ (b ≡ c)

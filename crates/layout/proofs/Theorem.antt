@@ -17,7 +17,7 @@ pub record Promise (t : Tree) (L : Layout) : Type 0 where
   pub same : shape L ≡ t
   -- the root is at (0, 0)
   pub corner : RootAt (at 0 0) L
-  -- 21 to 24
+  -- 21 to 25
   pub clean : Clean L
   -- "The allowed width of n boxes is 3·floor(log2 n) + 1": k is that floor where n is also at least 2 to the power k
   pub narrow : (k : ℕ) → size t < 2 ^ suc k → width L ≤ 3 * k + 1

@@ -5,12 +5,13 @@ use mathlib.Core.Logic.{_↔_}
 use Prim.Native.Nat.{ℕ, min, max}
 use lib.Dec.{T, leb}
 use lib.IntN.{ℤ, pos}
-use lib.Signed.{leZ}
+use lib.Signed.{leZ, ltZ}
 use Rattle.segment.specs.declared.Point.{Point}
 use Rattle.segment.specs.Segment.{cross}
-use Rattle.segment.specs.inner.Test.{overlap, spans, astride}
+use Rattle.segment.specs.inner.Test.{overlap, spans, astride, splits, divides}
 use Rattle.segment.proofs.Decides.{Decides}
 use Rattle.segment.proofs.SharedPoint.{meets}
+use Rattle.segment.proofs.Crossing.{crosses}
 
 pub holds : {b : Bool} {A : Type 0} → b ≡ true → T b ↔ A → A
 holds e h = h .0 (subst T (sym e) tt)
@@ -49,6 +50,10 @@ pub spans-by : {d′ e′ : ℤ} (d e : ℤ) → d′ ≡ d → e′ ≡ e → (
 unfolding spans
 spans-by d e x y = cc
 
+pub splits-by : {d′ e′ : ℤ} (d e : ℤ) → d′ ≡ d → e′ ≡ e → (ltZ d′ (pos 0) && ltZ (pos 0) e′) ≡ splits d e
+unfolding splits
+splits-by d e x y = cc
+
 pub astride-by : {d e : ℤ} {s t : Bool} (A B X Y : Point) → d ≡ cross A B X → e ≡ cross A B Y → s ≡ spans d e → t ≡ spans e d → (s || t) ≡ astride A B X Y
 unfolding astride
 astride-by A B X Y d e s t = cc
@@ -57,3 +62,11 @@ pub meets-by : {o n a b : Bool} (P Q R S : Point) → o ≡ overlap (P .row) (Q 
     a ≡ astride P Q R S → b ≡ astride R S P Q → (o && (n && (a && b))) ≡ meets P Q R S
 unfolding meets
 meets-by P Q R S o n a b = cc
+
+pub divides-by : {d e : ℤ} {s t : Bool} (A B X Y : Point) → d ≡ cross A B X → e ≡ cross A B Y → s ≡ splits d e → t ≡ splits e d → (s || t) ≡ divides A B X Y
+unfolding divides
+divides-by A B X Y d e s t = cc
+
+pub crosses-by : {a b : Bool} (P Q R S : Point) → a ≡ divides P Q R S → b ≡ divides R S P Q → (a && b) ≡ crosses P Q R S
+unfolding crosses
+crosses-by P Q R S a b = cc

@@ -1,31 +1,22 @@
--- Two segments clash exactly where the test `clashes` says so. With a common end they do where each has another end and one of those lies on the other segment; with none, where they share a point. Rests on SharedPoint.
-use mathlib.Core.Path.{_≡_, refl, ap, ap₂, sym, subst, subst₂, _∙_}
-use mathlib.Core.Logic.{_↔_, _≢_, _⊎_, inl, inr, ⊎-elim, ⊎-map, ⊎-swap, Iff·trans}
-use mathlib.Core.Bool.{Bool, not, cond, _&&_, _||_}
-use Prim.Native.Nat.{ℕ, _+_, _*_, _≤_, _<_, max, min}
+-- When two segments clash: with a common end, where each has another end and one of those lies on the other segment; with none, where they share a point. Rests on Weights and CrossProduct.
+use mathlib.Core.Path.{_≡_, refl, ap, ap₂, sym, subst₂, _∙_}
+use mathlib.Core.Logic.{_↔_, _≢_, _⊎_, inl, inr, ⊎-elim, ⊎-map, ⊎-swap}
+use mathlib.Core.Bool.{Bool, _&&_}
+use Prim.Native.Nat.{ℕ, _+_, _*_, _≤_, _<_}
 use native.Mathlib.Nat.{le-dest, eq-of-mul-eq-mul-left}
 use native.Mathlib.Decide.{decLe, decLt}
 use native.Mathlib.Omega.{arith}
-use lib.Dec.{T, eqb}
+use lib.Dec.{eqb}
 use lib.IntN.{pos}
 use Rattle.segment.specs.declared.Point.{Point}
 use Rattle.segment.specs.Segment.{at, On, cross, Share, Lies, Clash}
-use Rattle.segment.proofs.Decides.{Decides, eq-decides, not-decides, and-decides, or-decides, cond-decides, same-meaning}
+use Rattle.segment.proofs.Decides.{Decides, eq-decides, and-decides, same-meaning}
 use Rattle.segment.proofs.Weights.{Weights, weights, on, on-turn, at-start, at-end, at-point}
 use Rattle.segment.proofs.Difference.{diff-zero}
 use Rattle.segment.proofs.CrossProduct.{plus, minus, cross-diff}
-use Rattle.segment.proofs.SharedPoint.{meets, meets-decides-share, lies-decides, rows-apart}
 
 unfoldable pub same : Point → Point → Bool
 same P Q = eqb (P .column) (Q .column) && eqb (P .row) (Q .row)
-
--- the segments from P to A and from P to B share more than P (the code asks first whether the three points are in line)
-unfoldable pub along : Point → Point → Point → Bool
-along P A B = not (same P A) && (not (same P B) && (meets P B A A || meets P A B B))
-
--- the test of clashes
-unfoldable pub clashes : Point → Point → Point → Point → Bool
-clashes P Q R S = cond (same P R) (along P Q S) (cond (same P S) (along P Q R) (cond (same Q R) (along Q P S) (cond (same Q S) (along Q P R) (meets P Q R S))))
 
 pub point : {P Q : Point} → P .column ≡ Q .column → P .row ≡ Q .row → P ≡ Q
 point c r = ap₂ at c r
@@ -43,9 +34,6 @@ same-decides P Q = same-meaning (λ z. point (z .0) (z .1), λ e. (column-same e
 pub clash→share : {P Q R S : Point} → Clash P Q R S → Share P Q R S
 clash→share h = record { q = h .q; x = h .x; y = h .y; q≥1 = h .q≥1; on-PQ = h .on-PQ; on-RS = h .on-RS }
 
-pub clash-rows-apart : {P Q R S : Point} → max (P .row) (Q .row) < min (R .row) (S .row) → Clash P Q R S → ⊥
-clash-rows-apart h c = rows-apart h (clash→share c)
-
 -- ---- symmetries
 
 pub clash-exchange : {P Q R S : Point} → Clash P Q R S → Clash R S P Q
@@ -53,9 +41,6 @@ clash-exchange h = record { q = h .q; x = h .x; y = h .y; q≥1 = h .q≥1; on-P
 
 pub clash-turn : {P Q R S : Point} → Clash P Q R S → Clash P Q S R
 clash-turn h = record { q = h .q; x = h .x; y = h .y; q≥1 = h .q≥1; on-PQ = h .on-PQ; on-RS = on-turn (h .on-RS); no-common-end = λ E a b. h .no-common-end E a (⊎-swap b) }
-
-pub clash-turn-first : {P Q R S : Point} → Clash P Q R S → Clash Q P R S
-clash-turn-first h = clash-exchange (clash-turn (clash-exchange h))
 
 -- ---- a common end P of P A and P B
 
@@ -146,22 +131,8 @@ on-line→clash {B} {C} n m l = record {
       ⊎-elim (λ k. n (e ∙ k)) (λ k. m (e ∙ k)) a;
 }
 
--- ---- the theorem
+-- ---- with no common end
 
--- with a common end, by which two ends are the same
-pub common-PR : {P Q R S : Point} → P ≡ R → Clash P Q P S ↔ Clash P Q R S
-common-PR {P} {Q} {R} {S} e = subst (λ (X : Point). Clash P Q P S ↔ Clash P Q X S) e (λ h. h, λ h. h)
-
-pub common-PS : {P Q R S : Point} → P ≡ S → Clash P Q P R ↔ Clash P Q R S
-common-PS e = Iff·trans (common-PR e) (clash-turn, clash-turn)
-
-pub common-QR : {P Q R S : Point} → Q ≡ R → Clash Q P Q S ↔ Clash P Q R S
-common-QR e = Iff·trans (common-PR e) (clash-turn-first, clash-turn-first)
-
-pub common-QS : {P Q R S : Point} → Q ≡ S → Clash Q P Q R ↔ Clash P Q R S
-common-QS e = Iff·trans (common-PS e) (clash-turn-first, clash-turn-first)
-
--- and with none
 pub no-common : {P Q R S : Point} → P ≢ R → P ≢ S → Q ≢ R → Q ≢ S → Share P Q R S → Clash P Q R S
 no-common n₁ n₂ n₃ n₄ h = record {
   q = h .q;
@@ -172,17 +143,3 @@ no-common n₁ n₂ n₃ n₄ h = record {
   on-RS = h .on-RS;
   no-common-end = λ E a b i. ⊎-elim (λ p. ⊎-elim (λ r. n₁ (sym p ∙ r)) (λ s. n₂ (sym p ∙ s)) b) (λ p. ⊎-elim (λ r. n₃ (sym p ∙ r)) (λ s. n₄ (sym p ∙ s)) b) a;
 }
-
-along-decides : (P A B : Point) → Decides (along P A B) (Clash P A P B)
-unfolding along
-along-decides P A B = same-meaning common-end
-    (and-decides (not-decides (same-decides P A)) (and-decides (not-decides (same-decides P B)) (or-decides (lies-decides A P B) (lies-decides B P A))))
-
-pub clashes↔clash : (P Q R S : Point) → T (clashes P Q R S) ↔ Clash P Q R S
-unfolding clashes
-clashes↔clash P Q R S =
-    cond-decides (same-decides P R) (λ e. same-meaning (common-PR e) (along-decides P Q S)) (λ n₁.
-    cond-decides (same-decides P S) (λ e. same-meaning (common-PS e) (along-decides P Q R)) (λ n₂.
-    cond-decides (same-decides Q R) (λ e. same-meaning (common-QR e) (along-decides Q P S)) (λ n₃.
-    cond-decides (same-decides Q S) (λ e. same-meaning (common-QS e) (along-decides Q P R)) (λ n₄.
-    same-meaning (no-common n₁ n₂ n₃ n₄, clash→share) (meets-decides-share P Q R S))))) .is

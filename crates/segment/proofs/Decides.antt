@@ -47,3 +47,10 @@ T-cond false x y f g = g tt
 
 pub cond-decides : {c x y : Bool} {C A : Type 0} → Decides c C → (C → Decides x A) → ((C → ⊥) → Decides y A) → Decides (cond c x y) A
 cond-decides {c} {x} {y} p f g = record { is = T-cond c x y (λ t. f (p .is .0 t) .is) (λ t. g (λ z. T-not c t (p .is .1 z)) .is) }
+
+pub dec : {b : Bool} {A : Type 0} → Decides b A → Dec A
+dec {b} {A} d = go b (d .is)
+  where
+    go : (b : Bool) → T b ↔ A → Dec A
+    go true h = yes (h .0 tt)
+    go false h = no (h .1)

@@ -1,5 +1,6 @@
 -- An integer as a difference of two naturals, so that a fact of ℤ is a fact of ℕ, where `omega` multiplies out.
-use mathlib.Core.Path.{_≡_, ap}
+use mathlib.Core.Path.{_≡_, ap, sym, subst}
+use mathlib.Core.Logic.{_↔_}
 use mathlib.Core.Bool.{Bool, true, false, not, cond}
 use Prim.Native.Nat.{ℕ, zero, suc, _+_, _*_, _-_, _≤_, _<_}
 use native.Mathlib.Omega.{arith}
@@ -58,6 +59,20 @@ pub diff-zero : (z : ℤ) {a b : ℕ} → Diff z a b → a ≡ b → z ≡ pos 0
 diff-zero (pos n) h e = ap pos (omega arith)
 diff-zero (negsuc n) h e = absurd (omega arith)
 
+-- two integers are equal exactly where their differences are
+diff-once : (z : ℤ) {a b c d : ℕ} → Diff z a b → Diff z c d → a + d ≡ c + b
+diff-once (pos n) h k = omega arith
+diff-once (negsuc n) h k = omega arith
+
+diff-level : (z w : ℤ) {a b c d : ℕ} → Diff z a b → Diff w c d → a + d ≡ c + b → z ≡ w
+diff-level (pos n) (pos m) h k e = ap pos (omega arith)
+diff-level (pos n) (negsuc m) h k e = absurd (omega arith)
+diff-level (negsuc n) (pos m) h k e = absurd (omega arith)
+diff-level (negsuc n) (negsuc m) h k e = ap negsuc (omega arith)
+
+pub diff-equal : {z w : ℤ} {a b c d : ℕ} → Diff z a b → Diff w c d → (z ≡ w) ↔ (a + d ≡ c + b)
+diff-equal {z} {w} {c = c} {d} h k = (λ e. diff-once z h (subst (λ (v : ℤ). Diff v c d) (sym e) k), diff-level z w h k)
+
 -- the signs
 pub diff-nonneg : (z : ℤ) {a b : ℕ} → Diff z a b → Decides (leZ (pos 0) z) (b ≤ a)
 diff-nonneg (pos n) h = record { is = (λ t. omega arith, λ l. le→leb 0 n (omega arith)) }
@@ -66,6 +81,10 @@ diff-nonneg (negsuc n) h = record { is = (λ t. absurd t, λ l. omega arith) }
 pub diff-nonpos : (z : ℤ) {a b : ℕ} → Diff z a b → Decides (leZ z (pos 0)) (a ≤ b)
 diff-nonpos (pos n) h = record { is = (λ t. omega (arith, leb→le n 0 t), λ l. le→leb n 0 (omega arith)) }
 diff-nonpos (negsuc n) h = record { is = (λ t. omega arith, λ l. tt) }
+
+pub diff-positive : (z : ℤ) {a b : ℕ} → Diff z a b → Decides (ltZ (pos 0) z) (b < a)
+diff-positive (pos n) h = record { is = (λ t. omega (arith, ltb→lt 0 n t), λ l. lt→ltb 0 n (omega arith)) }
+diff-positive (negsuc n) h = record { is = (λ t. absurd t, λ l. omega arith) }
 
 pub diff-negative : (z : ℤ) {a b : ℕ} → Diff z a b → Decides (ltZ z (pos 0)) (a < b)
 diff-negative (pos n) h = record { is = (λ t. omega (arith, ltb→lt n 0 t), λ l. lt→ltb n 0 (omega arith)) }

@@ -7,4 +7,7 @@ pub mod Range
 pub mod SharedPoint
 pub mod Clashing
 pub mod Separate
+pub mod Crossing
+pub mod Alike
+pub mod FourKinds
 pub mod Answers

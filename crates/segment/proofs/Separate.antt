@@ -1,4 +1,4 @@
--- Segments that do not clash: by columns, and by the numbers of their points. Rests on Clashing.
+-- Clashes with rows for columns; segments apart by their columns, which share no point, and by the numbers of their points, which do not clash. Rests on SharedPoint and Clashing.
 use mathlib.Core.Path.{_≡_, refl, ap, sym, _∙_}
 use mathlib.Core.Logic.{_⊎_, inl, inr, ⊎-elim, ⊎-map}
 use Prim.Native.Nat.{ℕ, _+_, _*_, _≤_, _<_, max, min}
@@ -6,11 +6,11 @@ use native.Mathlib.Nat.{mul-le-mul-left, le-of-mul-le-mul-left}
 use native.Mathlib.Decide.{decLt}
 use native.Mathlib.Omega.{arith}
 use Rattle.segment.specs.declared.Point.{Point}
-use Rattle.segment.specs.Segment.{Clash}
+use Rattle.segment.specs.Segment.{Share, Clash}
 use Rattle.segment.specs.inner.Test.{transpose, number}
 use Rattle.segment.proofs.Weights.{Weights, weights, at-end, at-point}
-use Rattle.segment.proofs.SharedPoint.{on-transpose}
-use Rattle.segment.proofs.Clashing.{point, clash-rows-apart}
+use Rattle.segment.proofs.SharedPoint.{on-transpose, share-transpose, rows-apart}
+use Rattle.segment.proofs.Clashing.{point}
 
 -- ---- rows for columns
 
@@ -26,8 +26,8 @@ clash-transpose P Q R S h = record {
   no-common-end = λ E a b i. h .no-common-end (transpose E) (⊎-map (ap transpose) (ap transpose) a) (⊎-map (ap transpose) (ap transpose) b) (record { in-column = i .in-row; in-row = i .in-column });
 }
 
-pub clash-columns-apart : {P Q R S : Point} → max (P .column) (Q .column) < min (R .column) (S .column) → Clash P Q R S → ⊥
-clash-columns-apart {P} {Q} {R} {S} h c = clash-rows-apart h (clash-transpose P Q R S c)
+pub columns-apart : {P Q R S : Point} → max (P .column) (Q .column) < min (R .column) (S .column) → Share P Q R S → ⊥
+columns-apart {P} {Q} {R} {S} h s = rows-apart h (share-transpose (transpose P) (transpose Q) (transpose R) (transpose S) s)
 
 -- ---- points by their numbers
 

@@ -1,17 +1,16 @@
 -- Two segments share a point exactly where the test `meets` says so, for all natural coordinates. Rests on the laws of the cross product.
 use mathlib.Core.Path.{_≡_, refl, ap}
-use mathlib.Core.Logic.{_↔_, _≢_, _⊎_, inl, inr}
+use mathlib.Core.Logic.{_≢_, _⊎_, inl, inr}
 use mathlib.Core.Bool.{Bool, _&&_}
 use Prim.Native.Nat.{ℕ, _+_, _*_, _≤_, _<_, min, max}
 use native.Mathlib.Nat.{mul-le-mul-left, le-of-mul-le-mul-left, le-dest, min-le-left, min-le-right, le-max-left, le-max-right}
 use native.Mathlib.Decide.{decLe, decLt, ℕ-discrete}
 use native.Mathlib.Omega.{arith}
-use lib.Dec.{T}
 use Rattle.segment.specs.declared.Point.{Point}
 use Rattle.segment.specs.Segment.{On, Share, Lies}
 use Rattle.segment.specs.inner.Test.{overlap, spans, astride, transpose}
 use Rattle.segment.proofs.Decides.{Decides, le-decides, and-decides, or-decides, same-meaning}
-use Rattle.segment.proofs.Weights.{weights, on, on-turn, at-start}
+use Rattle.segment.proofs.Weights.{Weights, weights, on, on-turn, at-start}
 use Rattle.segment.proofs.Difference.{diff-nonneg, diff-nonpos}
 use Rattle.segment.proofs.CrossProduct.{plus, minus, cross-diff, linear, cramer-column, cramer-row}
 
@@ -57,7 +56,7 @@ share-turn h = record { q = h .q; x = h .x; y = h .y; q≥1 = h .q≥1; on-PQ = 
 pub on-transpose : (A B : Point) {q x y : ℕ} → On (transpose A) (transpose B) q x y → On A B q y x
 on-transpose A B o = record { s = o .s; s≤q = o .s≤q; at-column = o .at-row; at-row = o .at-column }
 
-share-transpose : (P Q R S : Point) → Share (transpose P) (transpose Q) (transpose R) (transpose S) → Share P Q R S
+pub share-transpose : (P Q R S : Point) → Share (transpose P) (transpose Q) (transpose R) (transpose S) → Share P Q R S
 share-transpose P Q R S h = record { q = h .q; x = h .y; y = h .x; q≥1 = h .q≥1; on-PQ = on-transpose P Q (h .on-PQ); on-RS = on-transpose R S (h .on-RS) }
 
 -- ---- a shared point gives the test
@@ -99,30 +98,47 @@ share→meets {P} {Q} {R} {S} h = let a = weights (h .on-PQ) in
 
 -- ---- the test gives a shared point: where the segments cross
 
--- the weights are the distances of the ends from the other line
-crossing : (P Q R S : Point) → plus P Q R + minus P Q S < plus P Q S + minus P Q R → plus P Q R ≤ minus P Q R → minus P Q S ≤ plus P Q S → minus R S P ≤ plus R S P → plus R S Q ≤ minus R S Q → Share P Q R S
-crossing P Q R S d s₁ s₂ s₃ s₄ = go (le-dest s₁) (le-dest s₂) (le-dest s₃) (le-dest s₄)
+-- A shared point whose weights are the distances of the ends from the other line.
+pub record Cut (P Q R S : Point) : Type 0 where
+  pub q : ℕ
+  pub x : ℕ
+  pub y : ℕ
+  pub on-PQ : Weights P Q q x y
+  pub on-RS : Weights R S q x y
+  pub R-off : plus P Q R + on-RS .v ≡ minus P Q R
+  pub S-off : minus P Q S + on-RS .u ≡ plus P Q S
+  pub P-off : minus R S P + on-PQ .v ≡ plus R S P
+  pub Q-off : plus R S Q + on-PQ .u ≡ minus R S Q
+
+pub cut : (P Q R S : Point) → plus P Q R ≤ minus P Q R → minus P Q S ≤ plus P Q S → minus R S P ≤ plus R S P → plus R S Q ≤ minus R S Q → Cut P Q R S
+cut P Q R S s₁ s₂ s₃ s₄ = go (le-dest s₁) (le-dest s₂) (le-dest s₃) (le-dest s₄)
   where
     weigh : (f₁ b₁ f₂ b₂ f₃ b₃ f₄ b₄ p q r s a b e f : ℕ) → f₁ + b ≡ b₁ → b₂ + a ≡ f₂ → b₃ + e ≡ f₃ → f₄ + f ≡ b₄ →
         f₂ * r + b₁ * s + b₃ * q + f₄ * p ≡ b₂ * r + f₁ * s + f₃ * q + b₄ * p → a * r + b * s ≡ f * p + e * q
     weigh f₁ b₁ f₂ b₂ f₃ b₃ f₄ b₄ p q r s a b e f x₁ x₂ x₃ x₄ z =
         omega (arith, ap (λ (n : ℕ). n * s) x₁, ap (λ (n : ℕ). n * r) x₂, ap (λ (n : ℕ). n * q) x₃, ap (λ (n : ℕ). n * p) x₄)
 
-    go : (b : ℕ) × (plus P Q R + b ≡ minus P Q R) → (a : ℕ) × (minus P Q S + a ≡ plus P Q S) → (e : ℕ) × (minus R S P + e ≡ plus R S P) → (f : ℕ) × (plus R S Q + f ≡ minus R S Q) → Share P Q R S
+    go : (b : ℕ) × (plus P Q R + b ≡ minus P Q R) → (a : ℕ) × (minus P Q S + a ≡ plus P Q S) → (e : ℕ) × (minus R S P + e ≡ plus R S P) → (f : ℕ) × (plus R S Q + f ≡ minus R S Q) → Cut P Q R S
     go (b, x₁) (a, x₂) (e, x₃) (f, x₄) = record {
       q = a + b;
       x = a * R .column + b * S .column;
       y = a * R .row + b * S .row;
-      q≥1 = omega arith;
-      on-PQ = on (record {
+      on-PQ = record {
         u = f;
         v = e;
         sum = omega arith;
         in-column = weigh _ _ _ _ _ _ _ _ _ _ _ _ a b e f x₁ x₂ x₃ x₄ (cramer-column P Q R S);
         in-row = weigh _ _ _ _ _ _ _ _ _ _ _ _ a b e f x₁ x₂ x₃ x₄ (cramer-row P Q R S);
-      });
-      on-RS = on (record { u = a; v = b; sum = refl; in-column = refl; in-row = refl });
+      };
+      on-RS = record { u = a; v = b; sum = refl; in-column = refl; in-row = refl };
+      R-off = x₁;
+      S-off = x₂;
+      P-off = x₃;
+      Q-off = x₄;
     }
+
+crossing : (P Q R S : Point) → plus P Q R + minus P Q S < plus P Q S + minus P Q R → Cut P Q R S → Share P Q R S
+crossing P Q R S d c = record { q = c .q; x = c .x; y = c .y; q≥1 = omega (arith, c .R-off, c .S-off, c .on-RS .sum); on-PQ = on (c .on-PQ); on-RS = on (c .on-RS) }
 
 -- ---- and where all four points are in line
 
@@ -207,7 +223,7 @@ meets→share P Q R S (n, (o, (a, b))) = go a b
     less P Q R S n o s₁ s₂ s₃ s₄ = cases (decLt (plus P Q R + minus P Q S) (plus P Q S + minus P Q R))
       where
         cases : Dec (plus P Q R + minus P Q S < plus P Q S + minus P Q R) → Share P Q R S
-        cases (yes d) = crossing P Q R S d s₁ s₂ s₃ s₄
+        cases (yes d) = crossing P Q R S d (cut P Q R S s₁ s₂ s₃ s₄)
         cases (no d) = in-line P Q R S (omega arith) (omega arith) (omega arith) (omega arith) n o
 
     go : Astride P Q R S → Astride R S P Q → Share P Q R S
@@ -220,9 +236,6 @@ meets→share P Q R S (n, (o, (a, b))) = go a b
 
 pub meets-decides-share : (P Q R S : Point) → Decides (meets P Q R S) (Share P Q R S)
 meets-decides-share P Q R S = same-meaning (meets→share P Q R S, share→meets) (meets-decides P Q R S)
-
-pub meets↔share : (P Q R S : Point) → T (meets P Q R S) ↔ Share P Q R S
-meets↔share P Q R S = meets-decides-share P Q R S .is
 
 -- a segment of one point
 pub share→lies : {B P Q : Point} → Share P Q B B → Lies B P Q

@@ -13,10 +13,10 @@ pub record Weights (A B : Point) (q x y : ℕ) : Type 0 where
   pub in-column : x ≡ u * A .column + v * B .column
   pub in-row : y ≡ u * A .row + v * B .row
 
-pub weights : {A B : Point} {q x y : ℕ} → On A B q x y → Weights A B q x y
+abbrev pub weights : {A B : Point} {q x y : ℕ} → On A B q x y → Weights A B q x y
 weights {q} o = record { u = q - o .s; v = o .s; sum = omega (arith, o .s≤q); in-column = o .at-column; in-row = o .at-row }
 
-pub on : {A B : Point} {q x y : ℕ} → Weights A B q x y → On A B q x y
+abbrev pub on : {A B : Point} {q x y : ℕ} → Weights A B q x y → On A B q x y
 on {q} w = let e : w .u ≡ q - w .v = omega arith in record { s = w .v; s≤q = omega arith; at-column = rw e at (w .in-column); at-row = rw e at (w .in-row) }
 
 abbrev pub turned : {A B : Point} {q x y : ℕ} → Weights A B q x y → Weights B A q x y

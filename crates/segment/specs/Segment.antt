@@ -41,7 +41,7 @@ pub record Lies (B P Q : Point) : Type 0 where
 unfoldable pub cross : Point → Point → Point → ℤ
 cross P A B = (pos (A .column) -ℤ pos (P .column)) *ℤ (pos (B .row) -ℤ pos (P .row)) -ℤ (pos (A .row) -ℤ pos (P .row)) *ℤ (pos (B .column) -ℤ pos (P .column))
 
--- 23, for two lines by the points of their ends: they share a point other than one that both end at
+-- "two different lines share a point other than a box that both end at", for two lines by the points of their ends
 pub record Clash (P Q R S : Point) : Type 0 where
   pub q : ℕ
   pub x : ℕ

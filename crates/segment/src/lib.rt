@@ -1,10 +1,13 @@
-// Line segments between grid points: cross products, shared points, clashes of two segments.
+// Line segments between grid points: cross products, shared points, and how two segments meet.
+pub mod meeting;
+
 ghost use mathlib.Core.Path.{_≡_};
 ghost use mathlib.Core.Logic.{_↔_};
 ghost use Prim.Native.Nat.{min, max};
 ghost use lib.Dec.{T};
 ghost use lib.IntN.{pos, _-ℤ_};
 ghost use Rattle.segment.specs.Segment as Meaning;
+ghost use Rattle.segment.specs.Meeting.{Crosses};
 ghost use Rattle.segment.specs.inner.Test as Test;
 
 // A point of the grid: column 0 is leftmost, row 0 the top, rows grow downward.
@@ -54,6 +57,13 @@ fn spans(d: i64, e: i64) -> bool
     d <= 0 && e >= 0
 }
 
+// Is d below zero and e above?
+fn splits(d: i64, e: i64) -> bool
+    ensures { λ z. ⌜ z ≡ Test.splits d e ⌝ }
+{
+    d < 0 && e > 0
+}
+
 // Are x and y not both strictly on one side of the line through a and b?
 fn astride(a: Point, b: Point, x: Point, y: Point) -> bool
     ensures { λ z. ⌜ z ≡ Test.astride a b x y ⌝ }
@@ -61,6 +71,15 @@ fn astride(a: Point, b: Point, x: Point, y: Point) -> bool
     let d = cross(a, b, x);
     let e = cross(a, b, y);
     spans(d, e) || spans(e, d)
+}
+
+// Are x and y strictly on either side of the line through a and b?
+fn divides(a: Point, b: Point, x: Point, y: Point) -> bool
+    ensures { λ z. ⌜ z ≡ Test.divides a b x y ⌝ }
+{
+    let d = cross(a, b, x);
+    let e = cross(a, b, y);
+    splits(d, e) || splits(e, d)
 }
 
 // Do the segments from p to q and from r to s share a point?
@@ -76,50 +95,16 @@ pub fn meets(p: Point, q: Point, r: Point, s: Point) -> bool
     astride(p, q, r, s) && astride(r, s, p, q)
 }
 
+// Do the segments from p to q and from r to s cross?
+pub fn crosses(p: Point, q: Point, r: Point, s: Point) -> bool
+    ensures { λ z. ⌜ T z ↔ Crosses p q r s ⌝ }
+{
+    divides(p, q, r, s) && divides(r, s, p, q)
+}
+
 // Does b lie on the segment from p to q?
 pub fn lies(b: Point, p: Point, q: Point) -> bool
     ensures { λ z. ⌜ T z ↔ Meaning.Lies b p q ⌝ }
 {
     meets(p, q, b, b)
-}
-
-fn same(p: Point, q: Point) -> bool
-    ensures { λ z. ⌜ T z ↔ (p ≡ q) ⌝ }
-{
-    p.column == q.column && p.row == q.row
-}
-
-// Do the segments from p to a and from p to b share more than p?
-fn along(p: Point, a: Point, b: Point) -> bool
-    ensures { λ z. ⌜ T z ↔ Meaning.Clash p a p b ⌝ }
-{
-    if cross(p, a, b) != 0 {
-        return false;
-    }
-    if same(p, a) {
-        return false;
-    }
-    if same(p, b) {
-        return false;
-    }
-    lies(a, p, b) || lies(b, p, a)
-}
-
-// Do the segments from p to q and from r to s share a point other than one that both end at?
-pub fn clash(p: Point, q: Point, r: Point, s: Point) -> bool
-    ensures { λ z. ⌜ T z ↔ Meaning.Clash p q r s ⌝ }
-{
-    if same(p, r) {
-        return along(p, q, s);
-    }
-    if same(p, s) {
-        return along(p, q, r);
-    }
-    if same(q, r) {
-        return along(q, p, s);
-    }
-    if same(q, s) {
-        return along(q, p, r);
-    }
-    meets(p, q, r, s)
 }

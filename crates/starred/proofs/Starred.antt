@@ -15,11 +15,13 @@ use Rattle.layout.specs.Drawing.{hang, widest, join, place, steps, drawing, dra
 use Rattle.drawing.specs.declared.Drawn.{Drawn}
 use Rattle.drawing.specs.Answer.{store, planOf, drawnOf, placedIn}
 use Rattle.segment.specs.Segment.{cross}
-use Rattle.segment.specs.inner.Test.{overlap, spans, astride}
+use Rattle.segment.specs.inner.Test.{overlap, spans, astride, splits, divides}
 use Rattle.segment.proofs.SharedPoint.{meets}
-use Rattle.segment.proofs.Clashing.{same as samePlace, along, clashes}
+use Rattle.segment.proofs.Clashing.{same as samePlace}
+use Rattle.segment.proofs.Crossing.{crosses}
+use Rattle.segment.proofs.FourKinds.{along, clashes}
 use Rattle.verdict.specs.Verdict.{Verdict}
-use Rattle.verdict.proofs.Decide.{present, someLine, samePoint, childAbove, linesClash, inOrder, outOfOrder, verdictOf, decided}
+use Rattle.verdict.proofs.Decide.{present, someLine, samePoint, childAbove, twoLines, inOrder, outOfOrder, verdictOf, decided}
 use Rattle.width.specs.Allowed.{greatest, floorLog2, allowedWidth}
 use Rattle.starred.specs.Cases.{Case, draws, checks, allows, accepted, Right, cases}
 
@@ -76,5 +78,5 @@ every [] ok = tt
 every (c ∷ cs) ok = let z = and-yes (test c) (tests cs) ok in (right c (z .0), every cs (z .1))
 
 pub starred : All Right cases
-unfolding any member repeats count word follow chain free size nodes descend badLength badHead beyond broken occupied badFree stray badLinks isEmpty links badTree shortPlacements fault refusal width height shift flip mirror spine opposite seen runRole roleAfter handAfter rolesAfter roles hang widest join place steps drawing draw store planOf drawnOf placedIn cross overlap spans astride meets samePlace along clashes present someLine samePoint childAbove linesClash inOrder outOfOrder verdictOf greatest floorLog2 allowedWidth same listed test tests
+unfolding any member repeats count word follow chain free size nodes descend badLength badHead beyond broken occupied badFree stray badLinks isEmpty links badTree shortPlacements fault refusal width height shift flip mirror spine opposite seen runRole roleAfter handAfter rolesAfter roles hang widest join place steps drawing draw store planOf drawnOf placedIn cross overlap spans astride splits divides meets samePlace crosses along clashes present someLine samePoint childAbove twoLines inOrder outOfOrder verdictOf greatest floorLog2 allowedWidth same listed test tests
 starred = every cases tt

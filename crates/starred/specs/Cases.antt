@@ -95,8 +95,8 @@ cases =
     allows 2 4 ∷
     allows 3 4 ∷
     allows 4 7 ∷
-    -- "Check: root (0,0), left (0,1), right (0,2): 23."
-    checks two-leaves (8 ∷ 9 ∷ 0 ∷ 0 ∷ 0 ∷ 1 ∷ 0 ∷ 2 ∷ []) 23 ∷
+    -- "Check: root (0,0), left (0,1), right (0,2)": 23 in document 01; "The starred sheet with three boxes in column 0 now gets 25" (document 02, Paper 7)
+    checks two-leaves (8 ∷ 9 ∷ 0 ∷ 0 ∷ 0 ∷ 1 ∷ 0 ∷ 2 ∷ []) 25 ∷
     -- "Same root, left (2,1), right (1,1): 24."
     checks two-leaves (8 ∷ 9 ∷ 0 ∷ 0 ∷ 2 ∷ 1 ∷ 1 ∷ 1 ∷ []) 24 ∷
     -- "Root (0,0), only child (1,0)": 22 in document 01; "The starred level sheet becomes good" (document 02, Paper 4)

@@ -1,6 +1,6 @@
--- Lines seen along an axis, and in another order: the worst meeting is the same. Rests on Grades, and on the laws of rearrangements.
+-- Lines seen along an axis, and in another order: the worst meeting is the same. Rests on Grades, on the laws of the four kinds and on those of rearrangements.
 use mathlib.Core.Path.{_≡_, refl, ap, _∙_, subst, subst₂}
-use mathlib.Core.Logic.{_↔_, _⊎_, inl, inr, ⊎-map, ⊎-swap, Iff·trans, Iff·symm}
+use mathlib.Core.Logic.{_⊎_, inl, inr, ⊎-map, ⊎-swap}
 use mathlib.Core.Bool.{Bool, true, false}
 use mathlib.Core.List.{List}
 use Prim.Native.Nat.{ℕ, _+_, _≤_, _<_}
@@ -9,19 +9,17 @@ use native.Mathlib.Omega.{arith}
 use lib.ListN.{length, length-set, getD, set}
 use lib.Seq.{getD-set-same, getD-set-other}
 use Rattle.segment.specs.declared.Point.{Point}
-use Rattle.segment.specs.Segment.{Clash}
-use Rattle.segment.proofs.Clashing.{clash-turn, clash-turn-first}
-use Rattle.segment.proofs.Separate.{clash-transpose}
-use Rattle.segment.specs.inner.Test.{transpose, number}
+use Rattle.segment.specs.declared.meeting.Meeting.{Meeting}
+use Rattle.segment.specs.inner.Test.{number}
+use Rattle.segment.proofs.Alike.{Alike, alike-same, alike-then, alike-back, alike-exchange, alike-turn-first, alike-transpose}
+use Rattle.segment.proofs.FourKinds.{alike-kind}
 use Rattle.sort.specs.inner.Order.{Rearranged}
 use Rattle.sort.proofs.Rearranging.{turned, all-one, any-two, all-two}
-use Rattle.sweep.specs.declared.meeting.Meeting.{Meeting}
-use Rattle.sweep.specs.declared.meeting.Meeting.the-variants.{Clear, Clashing}
 use Rattle.sweep.specs.inner.Line.{startOf, endOf, first, last, Onward}
-use Rattle.sweep.specs.inner.Meetings.{Meets, Met, NoWorse, Worst}
+use Rattle.sweep.specs.inner.Meetings.{Met, NoWorse, Worst}
 use Rattle.sweep.specs.inner.Arranged.{view, Joined, Arranged, Aligned}
 use Rattle.sweep.proofs.Numbers.{number-first, number-last}
-use Rattle.sweep.proofs.Grades.{exchange, worst-at}
+use Rattle.sweep.proofs.Grades.{worst-at}
 
 -- ---- the loop
 
@@ -63,33 +61,28 @@ joined-back x = record { ends = ⊎-swap (x .ends); onward = x .onward }
 
 -- ---- the meeting of two lines so seen
 
-iff-meets : (m : Meeting) (P Q R S A B C D : Point) → Clash P Q R S ↔ Clash A B C D → Meets m P Q R S → Meets m A B C D
-iff-meets Clear P Q R S A B C D h x = λ c. x (h .1 c)
-iff-meets Clashing P Q R S A B C D h x = h .0 x
-
-view-clash : (across : Bool) (P Q R S : Point) → Clash (view across P) (view across Q) (view across R) (view across S) ↔ Clash P Q R S
-view-clash true P Q R S = (clash-transpose (transpose P) (transpose Q) (transpose R) (transpose S), clash-transpose P Q R S)
-view-clash false P Q R S = (λ c. c, λ c. c)
+view-alike : (across : Bool) (P Q R S : Point) → Alike (view across P) (view across Q) (view across R) (view across S) P Q R S
+view-alike true P Q R S = alike-back (alike-transpose P Q R S)
+view-alike false P Q R S = alike-same
 
 -- The ends of a line, in one order or the other.
 abbrev Ends : ℕ → Point → Point → Type 0
 Ends x P Q = ((startOf x ≡ P) × (endOf x ≡ Q)) ⊎ ((startOf x ≡ Q) × (endOf x ≡ P))
 
-first-ends : {P Q R S : Point} (x : ℕ) → Ends x P Q → Clash (startOf x) (endOf x) R S ↔ Clash P Q R S
-first-ends x (inl (e, f)) = (λ c. rw (← e, ← f) c, λ c. rw (e, f) c)
-first-ends x (inr (e, f)) = (λ c. clash-turn-first (rw (← e, ← f) c), λ c. rw (e, f) (clash-turn-first c))
+first-ends : {P Q R S : Point} (x : ℕ) → Ends x P Q → Alike (startOf x) (endOf x) R S P Q R S
+first-ends x (inl (e, f)) = rw (e, f) alike-same
+first-ends x (inr (e, f)) = rw (e, f) alike-turn-first
 
-second-ends : {P Q R S : Point} (y : ℕ) → Ends y R S → Clash P Q (startOf y) (endOf y) ↔ Clash P Q R S
-second-ends y (inl (e, f)) = (λ c. rw (← e, ← f) c, λ c. rw (e, f) c)
-second-ends y (inr (e, f)) = (λ c. clash-turn (rw (← e, ← f) c), λ c. rw (e, f) (clash-turn c))
+second-ends : {P Q R S : Point} (y : ℕ) → Ends y R S → Alike P Q (startOf y) (endOf y) P Q R S
+second-ends y e = alike-then alike-exchange (alike-then (first-ends y e) alike-exchange)
 
-joined-clash : {P Q R S : Point} {x y : ℕ} → Joined P Q x → Joined R S y → Clash (startOf x) (endOf x) (startOf y) (endOf y) ↔ Clash P Q R S
-joined-clash {x = x} {y} a b = Iff·trans (first-ends x (a .ends)) (second-ends y (b .ends))
+joined-alike : {P Q R S : Point} {x y : ℕ} → Joined P Q x → Joined R S y → Alike (startOf x) (endOf x) (startOf y) (endOf y) P Q R S
+joined-alike {x = x} {y} a b = alike-then (first-ends x (a .ends)) (second-ends y (b .ends))
 
 -- ---- the worst meeting
 
 met-symmetric : (m : Meeting) (x y : ℕ) → Met m x y → Met m y x
-met-symmetric m x y a = exchange m (startOf x) (endOf x) (startOf y) (endOf y) a
+met-symmetric m x y a = alike-kind m alike-exchange a
 
 no-worse-symmetric : (m : Meeting) (x y : ℕ) → NoWorse m x y → NoWorse m y x
 no-worse-symmetric m x y n = record { no-worse = λ k a. n .no-worse k (met-symmetric k y x a) }
@@ -102,12 +95,12 @@ worst-rearranged {n} {a} {b} {m} r w = record {
 
 worst-arranged : {across : Bool} {n : ℕ} {a b : List ℕ} {m : Meeting} → Arranged across n a b → Worst n b m → Worst n a m
 worst-arranged {across} {n} {a} {b} {m} r w = record {
-  found = ⊎-map (λ z. z) (λ z. let p = z .2 in (z .0, z .1, (p .0, p .1, iff-meets m _ _ _ _ _ _ _ _ (same (p .0) (z .0) (omega (arith, z .1, p .1)) (z .1)) (p .2)))) (w .found);
-  none-worse = λ i j h k. record { no-worse = λ z x. w .none-worse i j h k .no-worse z (iff-meets z _ _ _ _ _ _ _ _ (Iff·symm (same i j (omega arith) k)) x) };
+  found = ⊎-map (λ z. z) (λ z. let p = z .2 in (z .0, z .1, (p .0, p .1, alike-kind m (same (p .0) (z .0) (omega (arith, z .1, p .1)) (z .1)) (p .2)))) (w .found);
+  none-worse = λ i j h k. record { no-worse = λ z x. w .none-worse i j h k .no-worse z (alike-kind z (alike-back (same i j (omega arith) k)) x) };
 }
   where
-    same : (i j : ℕ) → i < n → j < n → Clash (startOf (getD b i 0)) (endOf (getD b i 0)) (startOf (getD b j 0)) (endOf (getD b j 0)) ↔ Clash (startOf (getD a i 0)) (endOf (getD a i 0)) (startOf (getD a j 0)) (endOf (getD a j 0))
-    same i j h k = Iff·trans (joined-clash (r .line i h) (r .line j k)) (view-clash across (startOf (getD a i 0)) (endOf (getD a i 0)) (startOf (getD a j 0)) (endOf (getD a j 0)))
+    same : (i j : ℕ) → i < n → j < n → Alike (startOf (getD b i 0)) (endOf (getD b i 0)) (startOf (getD b j 0)) (endOf (getD b j 0)) (startOf (getD a i 0)) (endOf (getD a i 0)) (startOf (getD a j 0)) (endOf (getD a j 0))
+    same i j h k = alike-then (joined-alike (r .line i h) (r .line j k)) (view-alike across (startOf (getD a i 0)) (endOf (getD a i 0)) (startOf (getD a j 0)) (endOf (getD a j 0)))
 
 -- Both, with the lengths as the code has them.
 module _ {n k m : ℕ} {a b c : List ℕ} (r : Aligned n a b) (s : Rearranged k b c) (e : k ≡ n) (f : m ≡ k) where

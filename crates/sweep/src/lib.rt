@@ -1,17 +1,16 @@
 // The worst meeting of two lines of a list: lines sorted by their ends, and each compared with those before it that end after it starts.
 mod axis;
 pub mod line;
-pub mod meeting;
+mod meeting;
 
 use crate::axis::align;
 use crate::line::HALF;
 use crate::line::end;
 use crate::line::start;
-use crate::meeting::Meeting;
-use crate::meeting::against;
-use crate::meeting::utmost;
-use crate::meeting::worse;
+use crate::meeting::grade;
+use crate::meeting::worse_with;
 use segment::least;
+use segment::meeting::Meeting;
 use segment::most;
 use sort::sort;
 ghost use mathlib.Core.Path.{_≡_};
@@ -23,43 +22,43 @@ ghost use Rattle.sort.specs.inner.Order.{Pairs, Ascending};
 ghost use Rattle.sweep.specs.inner.Line.{last, Onward};
 ghost use Rattle.sweep.specs.inner.Meetings.{WorstFrom, Worst};
 
-// The worst meeting of line i with a line before it. Lines are sorted by their ends:
+// The worst of a meeting and those of line i with the lines before it. Lines are sorted by their ends:
 // where one ends at the start of line i or before, so do all before that.
-fn worst_before(lines: &[u64], i: usize) -> Meeting
+fn worst_before(lines: &[u64], i: usize, found: Meeting) -> Meeting
     requires { ⌜ i < length (now lines) ⌝ }
     requires { ⌜ Onward (length (now lines)) (now lines) ⌝ }
     requires { ⌜ Ascending last (length (now lines)) (now lines) ⌝ }
-    ensures { λ m. ⌜ WorstFrom 0 i (now (lines .entry)) m ⌝ }
+    ensures { λ m. ⌜ WorstFrom 0 i (now (lines .entry)) found m ⌝ }
 {
     let k = lines[i];
     let p = start(k);
     let q = end(k);
     let low = least(p.column, q.column);
     let high = most(p.column, q.column);
-    let mut worst = Meeting::Clear;
+    let mut worst = found;
     let mut j = i;
     while 0 < j {
         let before = lines[j - 1];
         if before / HALF <= k % HALF {
             return worst;
         }
-        worst = worse(worst, against(p, q, low, high, start(before), end(before)));
+        worst = worse_with(worst, p, q, low, high, start(before), end(before));
         j -= 1;
     }
     worst
 }
 
-// The worst meeting of two lines, of lines sorted by their ends. Stops at one that no other is worse than.
+// The worst meeting of two lines, of lines sorted by their ends. Stops with the line that has one than which none is worse.
 fn worst_of(lines: &[u64]) -> Meeting
     requires { ⌜ Onward (length (now lines)) (now lines) ⌝ }
     requires { ⌜ Ascending last (length (now lines)) (now lines) ⌝ }
     ensures { λ m. ⌜ Worst (length (now (lines .entry))) (now (lines .entry)) m ⌝ }
 {
-    let mut worst = Meeting::Clear;
+    let mut worst = Meeting::Separate;
     let mut i = 0;
     while i < lines.len() {
-        worst = worse(worst, worst_before(lines, i));
-        if utmost(worst) {
+        worst = worst_before(lines, i, worst);
+        if grade(worst) == 2 {
             return worst;
         }
         i += 1;

@@ -1,4 +1,4 @@
--- What a table is like without one of the causes of refusal, or some; that a later cause is asked only without the earlier ones (`cond-same`); that their numbers are at most 8 (`fault-below`). Rests on Lists and Chain.
+-- What a table is like without one of the causes of refusal, or some; that a later cause is asked only without the earlier ones (`cond-same`); that their numbers are at most 8 (`fault-below`, `refusal-below`). Rests on Lists and Chain.
 use mathlib.Core.Path.{_≡_, refl}
 use mathlib.Core.Logic.{_⊎_, inl, inr, ⊎-elim, ⊎-map}
 use mathlib.Core.Bool.{Bool, true, false, not, cond, _&&_, _||_}
@@ -11,7 +11,7 @@ use borrow.Author.Tests.{ltb-false, leb-false, lt-leb, eqb-false}
 use Rattle.table.specs.Lists.{any, member, repeats, count}
 use Rattle.table.specs.Table.{Side, left, right, records, nextOf, leftOf, rightOf, tagOf, linkOf, rootOf, trail, chain, Chained, firstFree, free, Free}
 use Rattle.table.specs.Tree.{size, nodes, descend, tree}
-use Rattle.table.specs.Refusal.{badLength, badHead, beyond, broken, badChain, occupied, badFree, stray, badLinks, links, named, badTree, fault}
+use Rattle.table.specs.Refusal.{badLength, badHead, beyond, broken, badChain, occupied, badFree, stray, badLinks, links, named, badTree, shortPlacements, fault, refusal}
 use Rattle.table.proofs.Lists.{T-false, passes, or-false, any-false, same, Alike, alike, member-count, Distinct, Within, length-within, length-between, links-within}
 use Rattle.table.proofs.Chain.{follow-none, follow-zero, nodes-zero, descend-more, length-nodes, nodes-deeper, namer}
 
@@ -43,6 +43,10 @@ fault-below t =
     c (badLength t) 1 _ (omega arith)
     (c (badHead t) 2 _ (omega arith)
     (c (badChain t) 3 _ (omega arith) (c (badFree t) 8 _ (omega arith) (c (badLinks t) 4 _ (omega arith) (c (badTree t) 5 0 (omega arith) (omega arith))))))
+
+pub refusal-below : (t : List ℕ) (places : ℕ) → refusal t places ≤ 8
+unfolding refusal
+refusal-below t places = cond-below (eqb (fault t) 0) (cond-below (shortPlacements t places) (omega arith) (omega arith)) (fault-below t)
 
 -- A word that does not fail the test for zero.
 pub zero-word : (n : ℕ) → not (eqb n 0) ≡ false → n ≡ 0

@@ -1,4 +1,4 @@
-// Runs the drawer, the check, the allowed width, the wide drawer, the pen, hanging, at once and in two halves, and cutting on the cases of standard input, and prints every answer.
+// Runs the drawer, the check, the allowed width, the wide drawer, the pen, hanging, at once and in two halves, cutting and the comparison of two lines on the cases of standard input, and prints every answer.
 // What it must print is made by tests/make_trials.py from the reference program. Proved safe; what it prints is tested.
 //
 // A case is a head of four words (16 bits, low byte first) named kind, count, first, step, and what the kind says:
@@ -20,6 +20,7 @@
 //   13 hold: at the parent count, on the side first mod 256. Prints 'hold' and the record, or 'hold refused' and the refusal
 //   14 held: parent, side and tag as in 11; four words follow, a number, low word first, which mod 65536 is the record that was held. Prints 'held' and
 //     the refusal or 0, and the changed records as in 11
+//   15 compare: eight words follow, the columns and rows of the ends of two lines. Prints 'compare' and 'separate', 'end', 'crossing' or 'touching'
 // The table that 11, 12 or 14 leaves is the table from there on.
 // The cases end with the input, or with a head of any other kind.
 mod input;
@@ -42,6 +43,10 @@ use drawing::Drawn;
 use drawing::Plan;
 use hanging::Hung;
 use pen::strokes::Stroke;
+use segment::meeting::Meeting;
+use segment::meeting::compare;
+use sweep::line::end;
+use sweep::line::start;
 use table::writing::copy;
 use wide::Wide;
 ghost use mathlib.Core.Path.{_≡_};
@@ -164,6 +169,30 @@ fn run_name(count: usize, out: &mut [u8], used: usize) -> usize
     put(out, at, b'\n')
 }
 
+fn put_meeting(out: &mut [u8], used: usize, answer: Meeting) -> usize
+    requires { ⌜ 0 < length (now out) ⌝ }
+    requires { ⌜ used ≤ length (now out) ⌝ }
+    ensures { λ r. ⌜ r ≤ length (now (out .entry)) ⌝ }
+{
+    match answer {
+        Meeting::Separate => put_all(out, used, b"compare separate\n"),
+        Meeting::SharedEnd => put_all(out, used, b"compare end\n"),
+        Meeting::Crossing => put_all(out, used, b"compare crossing\n"),
+        Meeting::Touching => put_all(out, used, b"compare touching\n"),
+    }
+}
+
+// A line is read as a number of 64 bits, of four words.
+fn run_compare(out: &mut [u8], used: usize) -> usize
+    requires { ⌜ 0 < length (now out) ⌝ }
+    requires { ⌜ used ≤ length (now out) ⌝ }
+    ensures { λ r. ⌜ r ≤ length (now (out .entry)) ⌝ }
+{
+    let a = next_number();
+    let b = next_number();
+    put_meeting(out, used, compare(start(a), end(a), start(b), end(b)))
+}
+
 // What hanging or its first half says: the record, or the refusal.
 fn put_hung(out: &mut [u8], used: usize, name: &[u8], answer: Hung) -> usize
     requires { ⌜ 0 < length (now out) ⌝ }
@@ -280,6 +309,9 @@ fn ask(table: &[u8], places: &mut [u16], out: &mut [u8], used: usize, h: Head) -
     if h.kind == 13 {
         return run_hold(table, out, used, h);
     }
+    if h.kind == 15 {
+        return run_compare(out, used);
+    }
     run_width(h, out, used)
 }
 
@@ -326,7 +358,7 @@ fn answer(table: &mut [u8], places: &mut [u16], out: &mut [u8], s: State, h: Hea
 {
     let n = s.bytes;
     let m = s.places;
-    if 10 < h.kind && h.kind != 13 {
+    if h.kind == 11 || h.kind == 12 || h.kind == 14 {
         return change(table, n, out, s.used, h);
     }
     ask(&table[..n], &mut places[..m], out, s.used, h)
@@ -345,7 +377,7 @@ fn step(table: &mut [u8], places: &mut [u16], out: &mut [u8], s: State) -> State
     ensures { λ r. ⌜ r .used ≤ length (now (out .entry)) ⌝ }
 {
     let h = next_head();
-    if h.kind == 0 || 14 < h.kind {
+    if h.kind == 0 || 15 < h.kind {
         return State {
             bytes: s.bytes,
             places: s.places,

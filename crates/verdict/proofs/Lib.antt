@@ -4,6 +4,7 @@ pub mod OffChain
 pub mod Ends
 pub mod Clashes
 pub mod Decide
+pub mod Before
 pub mod Parent
 pub mod Turning
 pub mod Places

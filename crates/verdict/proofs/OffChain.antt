@@ -4,10 +4,11 @@ use mathlib.Core.Logic.{_↔_, _⊎_, inl, inr, ⊎-map}
 use mathlib.Core.List.{List}
 use Prim.Native.Nat.{ℕ}
 use lib.ListN.{length}
+use Rattle.segment.specs.declared.Point.{Point}
 use Rattle.table.specs.Table.{Side, Chained, Line}
 use Rattle.table.specs.OffChain.{OffChain}
 use Rattle.table.proofs.OffChain.{chain-same, link-same, refusal-same, off-chain-sym}
-use Rattle.verdict.specs.Conditions.{SamePoint, ChildAbove, LinesTouch, NodeOnLine, Touching, OutOfOrder}
+use Rattle.verdict.specs.Conditions.{SamePoint, ChildAbove, TwoLines, LinesClash, NodeOnLine, Clashing, OutOfOrder}
 use Rattle.verdict.specs.Verdict.{Verdict}
 
 -- The conditions, of the other table.
@@ -25,8 +26,22 @@ module _ {t u : List ℕ} (h : OffChain t u) where
     rows : ChildAbove t p → ChildAbove u p
     rows z = record { k = z .k; c = z .c; s = z .s; line = still-line (z .line); above = z .above }
 
-    crossings : LinesTouch t p → LinesTouch u p
-    crossings z = record {
+    two-lines : {R : Point → Point → Point → Point → Type 0} → TwoLines t p R → TwoLines u p R
+    two-lines z = record {
+      k = z .k;
+      c = z .c;
+      m = z .m;
+      d = z .d;
+      s = z .s;
+      s′ = z .s′;
+      line = still-line (z .line);
+      line′ = still-line (z .line′);
+      different = z .different;
+      so = z .so;
+    }
+
+    meetings : LinesClash t p → LinesClash u p
+    meetings z = record {
       k = z .k;
       c = z .c;
       m = z .m;
@@ -48,8 +63,8 @@ module _ {t u : List ℕ} (h : OffChain t u) where
     overlaps : NodeOnLine t p → NodeOnLine u p
     overlaps z = record { b = z .b; k = z .k; c = z .c; s = z .s; chained = still-chained (z .b) (z .chained); line = still-line (z .line); no-end = z .no-end; lies = z .lies }
 
-    touches : Touching t p → Touching u p
-    touches = ⊎-map crossings overlaps
+    clashes : Clashing t p → Clashing u p
+    clashes = ⊎-map meetings overlaps
 
     turns : OutOfOrder t p → OutOfOrder u p
     turns z = record { k = z .k; a = z .a; b = z .b; left-line = still-line (z .left-line); right-line = still-line (z .right-line); not-ordered = z .not-ordered }
@@ -63,7 +78,7 @@ onward : {t u p : List ℕ} {v : ℕ} → OffChain t u → Verdict t p v → Ver
 onward {t} {u} {p} h (inl a) = let e = refusal-same h (length p) in inl (λ z. a .0 (sym e ∙ z), a .1 ∙ sym e)
 onward {t} {u} {p} h (inr a) =
     let g = off-chain-sym h in
-    inr (refusal-same h (length p) ∙ a .0, first-same (points h) (points g) (first-same (rows h) (rows g) (first-same (touches h) (touches g) (first-same (turns h) (turns g) (λ e. e)))) (a .1))
+    inr (refusal-same h (length p) ∙ a .0, first-same (points h) (points g) (first-same (rows h) (rows g) (first-same (two-lines h) (two-lines g) (first-same (clashes h) (clashes g) (first-same (turns h) (turns g) (λ e. e))))) (a .1))
 
 pub off-chain-verdict : (t u p : List ℕ) (v : ℕ) → OffChain t u → Verdict t p v ↔ Verdict u p v
 off-chain-verdict t u p v h = (onward h, onward (off-chain-sym h))

@@ -1,19 +1,20 @@
-// Conditions 21 to 23 over lines as numbers: two that end at one point, one that goes up, two that share a point which does not end both.
+// Conditions 21, 22, 23 and 25 over lines as numbers: two that end at one point, one that goes up, two that cross, two that share another point which does not end both.
 // No node is held against a line: each node has a line that ends at it, so that a node on a line that it does not end shows as two lines that clash
-// (`touching↔clash`, proofs/Clashes; `clashing`, proofs/Places).
+// (`clashing↔points`, proofs/Clashes; `clashing`, proofs/Places).
+use segment::meeting::Meeting;
 use sort::sort;
 use sweep::line::end;
 use sweep::line::start;
-use sweep::meeting::Meeting;
 use sweep::same_end;
 use sweep::worst_meeting;
+ghost use mathlib.Core.Path.{_≡_};
 ghost use mathlib.Core.Logic.{_↔_};
 ghost use Prim.Native.Nat.{_≤_};
 ghost use lib.Dec.{T};
 ghost use lib.ListN.{length, getD};
 ghost use Rattle.sort.specs.inner.Order.{Below};
 ghost use Rattle.verdict.specs.Verdict.{FirstOf};
-ghost use Rattle.verdict.specs.inner.Steps.{Rises, lineConditions};
+ghost use Rattle.verdict.specs.inner.Steps.{Rises, lineConditions, worstVerdict};
 
 // Does a line go up, from a node to a child above it?
 fn rises_at(k: u64) -> bool
@@ -38,7 +39,19 @@ fn rises(lines: &[u64]) -> bool
     false
 }
 
-// 21 to 23: the first that holds, or 0.
+// What the worst meeting of two lines gives: 23, 25 or 0.
+fn worst_verdict(worst: Meeting) -> u16
+    ensures { λ r. ⌜ r ≡ worstVerdict worst ⌝ }
+{
+    match worst {
+        Meeting::Separate => 0,
+        Meeting::SharedEnd => 0,
+        Meeting::Crossing => 23,
+        Meeting::Touching => 25,
+    }
+}
+
+// 21, 22, 23 or 25: the first that holds, or 0.
 fn judge_lines(lines: &mut [u64], scratch: &mut [u64]) -> u16
     requires { ⌜ (length (now lines) ≤ 4097) × (length (now lines) ≤ length (now scratch)) ⌝ }
     ensures { λ r. ⌜ FirstOf (lineConditions (length (now (lines .entry))) (now (lines .entry))) r ⌝ }
@@ -50,11 +63,7 @@ fn judge_lines(lines: &mut [u64], scratch: &mut [u64]) -> u16
     if rises(lines) {
         return 22;
     }
-    let worst = worst_meeting(lines, scratch);
-    match worst {
-        Meeting::Clear => 0,
-        Meeting::Clashing => 23,
-    }
+    worst_verdict(worst_meeting(lines, scratch))
 }
 
 // The same, of the first n lines.

@@ -1,9 +1,9 @@
--- Tests that the code makes, proved to agree with the meaning in Segment.antt (proofs/SharedPoint.antt), and points transposed and numbered.
+-- Tests that the code makes, proved to agree with the meaning in Segment.antt and Meeting.antt (proofs/SharedPoint.antt, proofs/Crossing.antt), and points transposed and numbered.
 use mathlib.Core.Bool.{Bool, _&&_, _||_}
 use Prim.Native.Nat.{ℕ, _+_, _*_, min, max}
 use lib.Dec.{leb}
 use lib.IntN.{ℤ, pos}
-use lib.Signed.{leZ}
+use lib.Signed.{leZ, ltZ}
 use Rattle.segment.specs.declared.Point.{Point}
 use Rattle.segment.specs.Segment.{at, cross}
 
@@ -18,6 +18,14 @@ spans d e = leZ d (pos 0) && leZ (pos 0) e
 -- X and Y are not both strictly on one side of the line through A and B
 unfoldable pub astride : Point → Point → Point → Point → Bool
 astride A B X Y = spans (cross A B X) (cross A B Y) || spans (cross A B Y) (cross A B X)
+
+-- d is below zero, and e above
+unfoldable pub splits : ℤ → ℤ → Bool
+splits d e = ltZ d (pos 0) && ltZ (pos 0) e
+
+-- X and Y are strictly on either side of the line through A and B
+unfoldable pub divides : Point → Point → Point → Point → Bool
+divides A B X Y = splits (cross A B X) (cross A B Y) || splits (cross A B Y) (cross A B X)
 
 -- a point with column and row exchanged
 abbrev pub transpose : Point → Point

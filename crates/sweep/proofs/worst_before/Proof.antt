@@ -1,14 +1,14 @@
 -- `worst_before`: from the line before it downwards. Rests on Grades.
 use native.Mathlib.Omega.{arith}
-use Prim.Native.Nat.{_≤_}
+use Prim.Native.Nat.{_≤_, _-_}
 use Rattle.sweep.specs.inner.Meetings.{WorstFrom}
-use Rattle.sweep.proofs.Grades.{from-none, from-more, from-ended, from-first, met-by}
+use Rattle.sweep.proofs.Grades.{from-none, from-more, from-ended, from-first, worse-at, ends-apart}
 use borrow.Author.Needs.{needs}
 use Rattle.sweep.proofs.worst_before.Statement.{statement}
 use Rattle.sweep.proofs.worst_before.Tie as tie
 
 abbrev Inv-loop : tie.InvT-loop
-Inv-loop lines i k p q low high worst₀ j₀ worst j = (j ≤ i) × WorstFrom j i lines worst
+Inv-loop lines i k p q low high worst₀ j₀ worst j = (j ≤ i) × WorstFrom j i lines worst₀ worst
 
 abbrev μ-loop : tie.MeasureT-loop
 μ-loop lines i k p q low high worst₀ j₀ worst j = j
@@ -32,7 +32,7 @@ most-requires : tie.Need-most-requires Inv-loop μ-loop
 most-requires c κs = search needs
 
 loop-holds : tie.Need-loop-holds Inv-loop μ-loop
-loop-holds c = (omega arith, from-none _ _)
+loop-holds c = (omega arith, from-none _ _ _)
 
 sub-before : tie.Need-sub-before Inv-loop μ-loop
 sub-before c = search needs
@@ -52,11 +52,19 @@ start-requires-2 c κs = search needs
 end-requires-2 : tie.Need-end-requires-2 Inv-loop μ-loop
 end-requires-2 c κs = search needs
 
-against-requires : tie.Need-against-requires Inv-loop μ-loop
-against-requires c κs = (c .before .before .before .before .before .before .before .least .ensures, c .before .before .before .before .before .before .most .ensures)
-
-worse-requires : tie.Need-worse-requires Inv-loop μ-loop
-worse-requires c κs = search needs
+worse-with-requires : tie.Need-worse-with-requires Inv-loop μ-loop
+worse-with-requires c κs =
+    let e = c .before .before in
+    let l = e .before .before .before in
+    let m = l .before in
+    let n = m .before in
+    let f = n .before in
+    let g = f .before in
+    let s = g .before .before .before in (
+      (n .least .ensures, m .most .ensures),
+      ends-apart _ _ (g .start .ensures) (f .end .ensures) (c .before .start2 .ensures) (c .end2 .ensures) (e .if1 .left)
+          (s .pre .1 .0 .onward (l .loop .j - 1) (omega arith)) (s .pre .1 .1 .rises (l .loop .j - 1) (s .args .i) (omega arith) (s .pre .0)),
+    )
 
 sub-j : tie.Need-sub-j Inv-loop μ-loop
 sub-j c = search needs
@@ -65,7 +73,11 @@ loop-less : tie.Need-loop-less Inv-loop μ-loop
 loop-less c = search needs
 
 loop-again : tie.Need-loop-again Inv-loop μ-loop
-loop-again c = let l = c .before .before .before .before .before .before .before .loop in (omega arith, from-more _ (omega arith) (omega arith) (l .inv .1) (met-by (c .before .against .result) (c .before .before .before .start2 .ensures) (c .before .before .end2 .ensures) (c .before .before .before .before .before .before .before .before .before .before .before .start .ensures) (c .before .before .before .before .before .before .before .before .before .before .end .ensures) (c .before .against .ensures)) (c .worse .ensures))
+loop-again c =
+    let e = c .before .before .before in
+    let l = e .before .before .before in
+    let f = l .before .before .before in
+    (omega arith, from-more (omega arith) (omega arith) (l .loop .inv .1) (worse-at (c .before .before .start2 .ensures) (c .before .end2 .ensures) (f .before .start .ensures) (f .end .ensures) (c .worse-with .ensures)))
 
 returns-2 : tie.Need-returns-2 Inv-loop μ-loop
 returns-2 c = from-first (omega arith) (c .before .loop .inv .1)
@@ -89,8 +101,7 @@ worst-before-spec =
     returns
     start-requires-2
     end-requires-2
-    against-requires
-    worse-requires
+    worse-with-requires
     sub-j
     loop-less
     loop-again

@@ -20,14 +20,11 @@ loop-holds c = (omega arith, worst-none _)
 worst-before-requires : tie.Need-worst-before-requires Inv-loop μ-loop
 worst-before-requires c κs = search needs
 
-worse-requires : tie.Need-worse-requires Inv-loop μ-loop
-worse-requires c κs = search needs
-
-utmost-requires : tie.Need-utmost-requires Inv-loop μ-loop
-utmost-requires c κs = search needs
+grade-requires : tie.Need-grade-requires Inv-loop μ-loop
+grade-requires c κs = search needs
 
 returns : tie.Need-returns Inv-loop μ-loop
-returns c = worst-utmost (omega arith) (c .before .utmost .ensures (c .if1 .taken)) (worst-more (c .before .before .before .before .before .loop .inv .1) (c .before .before .before .worst-before .ensures) (c .before .before .worse .ensures))
+returns c = let w = c .before .before in worst-utmost (omega arith) (omega (arith, c .if1 .taken, c .before .grade .ensures)) (worst-more (w .before .before .loop .inv .1) (w .worst-before .ensures))
 
 add-i : tie.Need-add-i Inv-loop μ-loop
 add-i c = search needs
@@ -36,7 +33,7 @@ loop-less : tie.Need-loop-less Inv-loop μ-loop
 loop-less c = search needs
 
 loop-again : tie.Need-loop-again Inv-loop μ-loop
-loop-again c = (omega arith, worst-more (c .before .before .before .before .before .loop .inv .1) (c .before .before .before .worst-before .ensures) (c .before .before .worse .ensures))
+loop-again c = let w = c .before .before in (omega arith, worst-more (w .before .before .loop .inv .1) (w .worst-before .ensures))
 
 returns-2 : tie.Need-returns-2 Inv-loop μ-loop
 returns-2 c = worst-at (omega arith) (c .before .loop .inv .1)
@@ -49,8 +46,7 @@ worst-of-spec =
     μ-loop
     loop-holds
     worst-before-requires
-    worse-requires
-    utmost-requires
+    grade-requires
     returns
     add-i
     loop-less

@@ -1,4 +1,4 @@
--- `judge_in`: the first of 21 to 23, or else 24 or none. Rests on Places and Judged.
+-- `judge_in`: the first of 21, 22, 23 and 25, or else 24 or none. Rests on Places and Judged.
 use mathlib.Core.Path.{refl}
 use mathlib.Core.Logic.{inl, inr}
 use native.Mathlib.Omega.{arith}

@@ -7,7 +7,10 @@ use Prim.Native.Nat.{ℕ, _+_, _*_, _≤_, _<_}
 use lib.Dec.{eqb}
 use lib.ListN.{length, getD}
 use Rattle.segment.specs.declared.Point.{Point}
+use Rattle.segment.specs.declared.meeting.Meeting.{Meeting}
+use Rattle.segment.specs.declared.meeting.Meeting.the-variants.{Separate, SharedEnd, Crossing, Touching}
 use Rattle.segment.specs.Segment.{Clash}
+use Rattle.segment.specs.Meeting.{Crosses}
 use Rattle.sort.specs.inner.Order.{Below, Pairs}
 use Rattle.sweep.specs.inner.Line.{startOf, endOf, last}
 use Rattle.table.specs.Table.{Side, records, leftOf, rightOf, linkOf, rootOf, Line}
@@ -50,12 +53,24 @@ pub record LinesOf (t p : List ℕ) (n : ℕ) (nodes l : List ℕ) : Type 0 wher
 abbrev pub Rises : ℕ → Type 0
 Rises k = endOf k .row < startOf k .row
 
--- 21 to 23, of the first n lines
+-- Two of the first n lines of which R holds, by their ends.
+abbrev pub Two : (Point → Point → Point → Point → Type 0) → ℕ → List ℕ → Type 0
+Two R n l = Pairs n (λ i j. R (startOf (getD l i 0)) (endOf (getD l i 0)) (startOf (getD l j 0)) (endOf (getD l j 0)))
+
+-- 21, 22, 23 and 25, of the first n lines
 abbrev pub lineConditions : ℕ → List ℕ → List Condition
 lineConditions n l =
     numbered 21 (Pairs n (λ i j. last (getD l i 0) ≡ last (getD l j 0))) ∷
     numbered 22 (Below n (λ i. Rises (getD l i 0))) ∷
-    numbered 23 (Pairs n (λ i j. Clash (startOf (getD l i 0)) (endOf (getD l i 0)) (startOf (getD l j 0)) (endOf (getD l j 0)))) ∷ []
+    numbered 23 (Two Crosses n l) ∷
+    numbered 25 (Two Clash n l) ∷ []
+
+-- The last two of them, or 0, by the worst meeting of two lines.
+abbrev pub worstVerdict : Meeting → ℕ
+worstVerdict Separate = 0
+worstVerdict SharedEnd = 0
+worstVerdict Crossing = 23
+worstVerdict Touching = 25
 
 -- Record k and its links are records, and all records have their places among the placements.
 pub record Placeable (t p : List ℕ) (k : ℕ) : Type 0 where

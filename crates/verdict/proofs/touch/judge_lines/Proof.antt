@@ -3,7 +3,7 @@ use mathlib.Core.Path.{refl}
 use mathlib.Core.Logic.{inl, inr}
 use Rattle.sort.proofs.Neighbours.{ascending-length}
 use Rattle.segment.proofs.Answers.{holds, fails}
-use Rattle.verdict.proofs.Judged.{first-moved, clash-first, none-first}
+use Rattle.verdict.proofs.Judged.{first-moved, worst-first}
 use borrow.Author.Needs.{needs}
 use Rattle.verdict.proofs.touch.judge_lines.Statement.{statement}
 use Rattle.verdict.proofs.touch.judge_lines.Tie as tie
@@ -38,11 +38,8 @@ returns-2 c = let r = c .before .before .before .before .before .before .before 
 worst-meeting-requires : tie.Need-worst-meeting-requires
 worst-meeting-requires c κs = search needs
 
-enum-told : tie.Need-enum-told
-enum-told c = search needs
-
-enum-told-2 : tie.Need-enum-told-2
-enum-told-2 c = search needs
+worst-verdict-requires : tie.Need-worst-verdict-requires
+worst-verdict-requires c κs = search needs
 
 same-length-5 : tie.Need-same-length-5
 same-length-5 c = search needs
@@ -51,16 +48,12 @@ same-length-6 : tie.Need-same-length-6
 same-length-6 c = search needs
 
 returns-3 : tie.Need-returns-3
-returns-3 c = let r = c .before .before .before .before .before .before .before .before .before .before .before .before .before .before .before .before .before .before .before .sort in first-moved (r .ensures .0) (r .kept .0) (none-first (fails (c .before .before .before .before .before .before .before .before .before .before .before .before .if1 .left) (c .before .before .before .before .before .before .before .before .before .before .before .before .before .same-end .ensures)) (fails (c .before .before .before .before .before .before .before .before .before .if2 .left) (c .before .before .before .before .before .before .before .before .before .before .rises .ensures)) (c .enum-told .given .1) (c .before .before .before .before .before .before .worst-meeting .ensures))
-
-same-length-7 : tie.Need-same-length-7
-same-length-7 c = search needs
-
-same-length-8 : tie.Need-same-length-8
-same-length-8 c = search needs
-
-returns-4 : tie.Need-returns-4
-returns-4 c = let r = c .before .before .before .before .before .before .before .before .before .before .before .before .before .before .before .before .before .before .before .sort in first-moved (r .ensures .0) (r .kept .0) (clash-first (fails (c .before .before .before .before .before .before .before .before .before .before .before .before .if1 .left) (c .before .before .before .before .before .before .before .before .before .before .before .before .before .same-end .ensures)) (fails (c .before .before .before .before .before .before .before .before .before .if2 .left) (c .before .before .before .before .before .before .before .before .before .before .rises .ensures)) (c .enum-told2 .given .1) (c .before .before .before .before .before .before .worst-meeting .ensures))
+returns-3 c =
+    let w = c .before .before .before .before .before in
+    let b = w .before .before .before in
+    let a = b .before .before .before in
+    let r = a .before .before .before .before .before .before .before .sort in
+    first-moved (r .ensures .0) (r .kept .0) (worst-first (w .worst-meeting .result) (fails (a .if1 .left) (a .before .same-end .ensures)) (fails (b .if2 .left) (b .before .rises .ensures)) (w .worst-meeting .ensures) (c .worst-verdict .ensures))
 
 pub judge-lines-spec : {M : Type 1} → statement M
 judge-lines-spec =
@@ -76,11 +69,7 @@ judge-lines-spec =
     same-length-4
     returns-2
     worst-meeting-requires
-    enum-told
-    enum-told-2
+    worst-verdict-requires
     same-length-5
     same-length-6
-    returns-3
-    same-length-7
-    same-length-8
-    returns-4)
+    returns-3)

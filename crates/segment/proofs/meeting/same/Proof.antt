@@ -1,10 +1,10 @@
--- `segment::same` meets its contract.
+-- `segment::meeting::same` meets its contract.
 use borrow.Author.Tests.{eq-eqb, ne-eqb}
 use mathlib.Core.Path.{refl, _∙_}
 use Rattle.segment.proofs.Clashing.{same, same-decides}
 use Rattle.segment.proofs.Answers.{answer, and-skip, and-stop}
-use Rattle.segment.proofs.same.Statement.{statement}
-use Rattle.segment.proofs.same.Tie as tie
+use Rattle.segment.proofs.meeting.same.Statement.{statement}
+use Rattle.segment.proofs.meeting.same.Tie as tie
 
 returns : tie.Need-returns
 unfolding same

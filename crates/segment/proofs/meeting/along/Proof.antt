@@ -1,4 +1,4 @@
--- `segment::along` meets its contract.
+-- `segment::meeting::along` meets its contract.
 use borrow.Author.Needs.{needs}
 use mathlib.Core.Logic.{inl, inr, ⊎-elim}
 use mathlib.Core.Path.{ap, sym, subst, _∙_}
@@ -7,8 +7,8 @@ use mir.Syntax.{w64}
 use mir.Val.{ofZ}
 use Rattle.segment.proofs.Clashing.{common-end, clash→in-line}
 use Rattle.segment.proofs.Answers.{holds, fails}
-use Rattle.segment.proofs.along.Statement.{statement}
-use Rattle.segment.proofs.along.Tie as tie
+use Rattle.segment.proofs.meeting.along.Statement.{statement}
+use Rattle.segment.proofs.meeting.along.Tie as tie
 
 cross-requires : tie.Need-cross-requires
 cross-requires c κs = search needs
