@@ -1,6 +1,5 @@
--- The four kinds of meeting exclude each other (`one-kind`) and leave nothing out (`some-kind`), for all natural coordinates; and what follows from a common end, or from none. Rests on Crossing and Alike.
+-- The four kinds of meeting exclude each other (`one-kind`) and leave nothing out (`some-kind`), for all natural coordinates; and what follows from a common end. Rests on Crossing and Alike.
 use mathlib.Core.Path.{_≡_, refl}
-use mathlib.Core.Logic.{_≢_}
 use mathlib.Core.Bool.{Bool, not, cond, _&&_, _||_}
 use native.Mathlib.Omega.{arith}
 use Rattle.segment.specs.declared.Point.{Point}
@@ -64,7 +63,7 @@ one-kind Touching Touching P Q R S a b = refl
 
 -- ---- they leave nothing out
 
-touches-by : {P Q R S : Point} → Clash P Q R S → (Crosses P Q R S → ⊥) → Touches P Q R S
+pub touches-by : {P Q R S : Point} → Clash P Q R S → (Crosses P Q R S → ⊥) → Touches P Q R S
 touches-by c x = record { share = clash→share c; not-at-end = λ e. e .no-clash c; not-crossing = x }
 
 pub some-kind : (P Q R S : Point) → (m : Meeting) × MeetSo m P Q R S
@@ -93,13 +92,10 @@ alike-kind SharedEnd h a = record { share = h .share .0 (a .share); no-clash = �
 alike-kind Crossing h a = h .crosses .0 a
 alike-kind Touching h a = touches-by (h .clash .0 (touches→clash a)) (λ x. a .not-crossing (h .crosses .1 x))
 
--- ---- by a common end, or none
+-- ---- with a common end
 
 pub joined-touching : {P A B : Point} → Clash P A P B → Touches P A P B
 joined-touching c = touches-by c (λ x. no-common-start x .0 refl)
 
 pub joined-end : {P A B : Point} → (Clash P A P B → ⊥) → MeetsAtEnd P A P B
 joined-end {P} {A} {B} n = record { share = record { q = 1; x = _; y = _; q≥1 = omega arith; on-PQ = at-start P A 1; on-RS = at-start P B 1 }; no-clash = n }
-
-pub no-common-touching : {P Q R S : Point} → P ≢ R → P ≢ S → Q ≢ R → Q ≢ S → Share P Q R S → (Crosses P Q R S → ⊥) → Touches P Q R S
-no-common-touching n₁ n₂ n₃ n₄ s x = touches-by (no-common n₁ n₂ n₃ n₄ s) x

@@ -1,6 +1,6 @@
 -- Meetings by how bad they are: the worst of some lines, and of one more. Rests on the laws of segments apart and of the four kinds.
 use mathlib.Core.Path.{_≡_, refl, sym, ap, subst, _∙_}
-use mathlib.Core.Logic.{_≢_, _⊎_, inl, inr, ⊎-elim, ⊎-map}
+use mathlib.Core.Logic.{_↔_, _≢_, _⊎_, inl, inr, ⊎-elim, ⊎-map}
 use mathlib.Core.List.{List}
 use Prim.Native.Nat.{ℕ, _+_, _≤_, _<_, min, max}
 use native.Mathlib.Decide.{decLt, ℕ-discrete}
@@ -13,7 +13,7 @@ use Rattle.segment.specs.Segment.{Share, Clash}
 use Rattle.segment.specs.Meeting.{Crosses, MeetSo}
 use Rattle.segment.specs.inner.Test.{number}
 use Rattle.segment.proofs.SharedPoint.{share-exchange}
-use Rattle.segment.proofs.Clashing.{clash-exchange}
+use Rattle.segment.proofs.Clashing.{clash→share, clash-exchange}
 use Rattle.segment.proofs.Separate.{columns-apart, number-once, numbers-apart}
 use Rattle.segment.proofs.Crossing.{crosses→clash}
 use Rattle.segment.proofs.FourKinds.{one-kind, some-kind, touches→clash}
@@ -30,11 +30,12 @@ worst-grade m SharedEnd h = omega arith
 worst-grade m Crossing h = omega arith
 worst-grade m Touching h = omega arith
 
-no-clash-grade : (m k : Meeting) (P Q R S : Point) → (Clash P Q R S → ⊥) → MeetSo k P Q R S → grade k ≤ grade m
-no-clash-grade m Separate P Q R S h a = omega arith
-no-clash-grade m SharedEnd P Q R S h a = omega arith
-no-clash-grade m Crossing P Q R S h a = absurd (h (crosses→clash a))
-no-clash-grade m Touching P Q R S h a = absurd (h (touches→clash a))
+-- A meeting is a fault where the lines clash.
+pub clash-graded : (m : Meeting) (P Q R S : Point) → MeetSo m P Q R S → Clash P Q R S ↔ (1 ≤ grade m)
+clash-graded Separate P Q R S a = (λ c. absurd (a (clash→share c)), λ h. absurd (omega arith))
+clash-graded SharedEnd P Q R S a = (λ c. absurd (a .no-clash c), λ h. absurd (omega arith))
+clash-graded Crossing P Q R S a = (λ c. omega arith, λ h. crosses→clash a)
+clash-graded Touching P Q R S a = (λ c. omega arith, λ h. touches→clash a)
 
 -- Without a crossing a meeting is no worse than a touch.
 uncrossed-grade : (k : Meeting) (P Q R S : Point) → (Crosses P Q R S → ⊥) → MeetSo k P Q R S → grade k ≤ 1
@@ -61,7 +62,7 @@ met-no-worse : (m k : Meeting) (x y : ℕ) → Met k x y → grade k ≤ grade m
 met-no-worse m k x y a h = record { no-worse = λ z b. subst (λ (w : Meeting). grade w ≤ grade m) (one-kind k z (startOf x) (endOf x) (startOf y) (endOf y) a b) h }
 
 apart-no-worse : (m : Meeting) (x y : ℕ) → (Clash (startOf x) (endOf x) (startOf y) (endOf y) → ⊥) → NoWorse m x y
-apart-no-worse m x y h = record { no-worse = λ k a. no-clash-grade m k (startOf x) (endOf x) (startOf y) (endOf y) h a }
+apart-no-worse m x y h = record { no-worse = λ k a. let n : (1 ≤ grade k) → ⊥ = λ g. h (clash-graded k (startOf x) (endOf x) (startOf y) (endOf y) a .1 g) in omega arith }
 
 no-worse-up : {m r : Meeting} {x y : ℕ} → grade m ≤ grade r → NoWorse m x y → NoWorse r x y
 no-worse-up h n = record { no-worse = λ k a. omega (arith, n .no-worse k a) }

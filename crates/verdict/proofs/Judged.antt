@@ -9,14 +9,15 @@ use Rattle.segment.specs.declared.Point.{Point}
 use Rattle.segment.specs.declared.meeting.Meeting.{Meeting}
 use Rattle.segment.specs.declared.meeting.Meeting.the-variants.{Separate, SharedEnd, Crossing, Touching}
 use Rattle.segment.specs.Segment.{Clash}
-use Rattle.segment.specs.Meeting.{Crosses, MeetSo}
-use Rattle.segment.proofs.Clashing.{clash→share, clash-exchange}
+use Rattle.segment.specs.Meeting.{Crosses}
+use Rattle.segment.proofs.Clashing.{clash-exchange}
 use Rattle.segment.proofs.Crossing.{crosses-exchange}
 use Rattle.segment.proofs.FourKinds.{some-kind, touches→clash}
 use Rattle.sort.specs.inner.Order.{Rearranged, Below, Pairs}
 use Rattle.sort.proofs.Rearranging.{any-one, any-two}
 use Rattle.sweep.specs.inner.Line.{startOf, endOf, last}
 use Rattle.sweep.specs.inner.Meetings.{grade, Worst}
+use Rattle.sweep.proofs.Grades.{clash-graded}
 use Rattle.table.specs.inner.Reading.{Nodes}
 use Rattle.verdict.specs.Conditions.{SamePoint, ChildAbove, OutOfOrder}
 use Rattle.verdict.specs.Verdict.{numbered, FirstOf, conditions}
@@ -63,14 +64,8 @@ module _ {n m : ℕ} {a b : List ℕ} (r : Rearranged n a b) (e : m ≡ n) where
 no-crossing : {n : ℕ} {l : List ℕ} {m : Meeting} → grade m ≤ 1 → Worst n l m → Two Crosses n l → ⊥
 no-crossing g w (j, h, (i, k, c)) = omega (arith, w .none-worse i j k h .no-worse Crossing c)
 
-clash-grade : (m : Meeting) (P Q R S : Point) → Clash P Q R S → MeetSo m P Q R S → 1 ≤ grade m
-clash-grade Separate P Q R S c a = absurd (a (clash→share c))
-clash-grade SharedEnd P Q R S c a = absurd (a .no-clash c)
-clash-grade Crossing P Q R S c a = omega arith
-clash-grade Touching P Q R S c a = omega arith
-
 no-clash : {n : ℕ} {l : List ℕ} {m : Meeting} → grade m ≡ 0 → Worst n l m → Two Clash n l → ⊥
-no-clash g w (j, h, (i, k, c)) = let z = some-kind _ _ _ _ in omega (arith, clash-grade (z .0) _ _ _ _ c (z .1), w .none-worse i j k h .no-worse (z .0) (z .1))
+no-clash g w (j, h, (i, k, c)) = let z = some-kind _ _ _ _ in omega (arith, clash-graded (z .0) _ _ _ _ (z .1) .0 c, w .none-worse i j k h .no-worse (z .0) (z .1))
 
 -- The last two conditions, and all of them with the answers of the searches before.
 by-worst : {n : ℕ} {l : List ℕ} (m : Meeting) → Worst n l m → FirstOf (numbered 23 (Two Crosses n l) ∷ numbered 25 (Two Clash n l) ∷ []) (worstVerdict m)

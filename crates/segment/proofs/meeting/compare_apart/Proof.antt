@@ -1,7 +1,8 @@
 -- `segment::meeting::compare_apart` meets its contract.
 use borrow.Author.Needs.{needs}
 use borrow.Author.Tests.{not-true, not-false}
-use Rattle.segment.proofs.FourKinds.{no-common-touching}
+use Rattle.segment.proofs.Clashing.{no-common}
+use Rattle.segment.proofs.FourKinds.{touches-by}
 use Rattle.segment.proofs.Answers.{holds, fails}
 use Rattle.segment.proofs.meeting.compare_apart.Statement.{statement}
 use Rattle.segment.proofs.meeting.compare_apart.Tie as tie
@@ -22,7 +23,7 @@ returns-3 : tie.Need-returns-3
 returns-3 c =
     let s = c .before .before in
     let a = s .before .before .pre in
-    no-common-touching (a .0) (a .1) (a .2) (a .3) (holds (not-false (s .before .meets .result) (s .if1 .left)) (s .before .meets .ensures)) (fails (c .if2 .left) (c .before .crosses .ensures))
+    touches-by (no-common (a .0) (a .1) (a .2) (a .3) (holds (not-false (s .before .meets .result) (s .if1 .left)) (s .before .meets .ensures))) (fails (c .if2 .left) (c .before .crosses .ensures))
 
 pub compare-apart-spec : {M : Type 1} → statement M
 compare-apart-spec = tie.close (tie.spec meets-requires returns crosses-requires returns-2 returns-3)
