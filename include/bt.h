@@ -1,13 +1,14 @@
-/* Drawing an ordered binary tree on a grid, checking such drawings, comparing two lines, plotting drawings by a pen, and hanging leaves, at once or in two halves, and
- * cutting them in the table that holds the tree.
+/* Drawing ordered binary trees on a grid, checking such drawings, comparing two lines, plotting drawings by a pen, and hanging leaves, at once or in two halves, and
+ * cutting them in the table that holds the trees.
  *
  * Link target/staticlib/libbt.a, which `rt staticlib bt` makes; of the C library it wants memcpy and memset alone. All functions end, allocate nothing, keep nothing between
  * calls, and may be called from several threads at once. Their stack was measured below 110 KB.
  *
  * A table is bytes in records of 8: four unsigned 16-bit words, low byte first: next, left, right, tag. Record 0 is the head: next names the first record of the
- * chain, left the root, right the first free record, tag is 0. Left and right name children, 0 is none. Free records are chained by next as well; their left, right
- * and tag are 0. Records on neither chain may hold anything; they change no answer and are never taken. At most 4,097 records. Placements are 16-bit numbers: record
- * k has its column at 2k and its row at 2k + 1. Lengths count elements, not bytes.
+ * chain, left the root of the first tree, right the first free record, tag is 0. Left and right name children, 0 is none. Every other chained record that no chained
+ * record names is a root as well; the trees of these come after the first, in the order of the chain. Where next and left of the head are both 0, the table is empty: it
+ * has no nodes. Free records are chained by next as well; their left, right and tag are 0. Records on neither chain may hold anything; they change no answer and are
+ * never taken. At most 4,097 records. Placements are 16-bit numbers: record k has its column at 2k and its row at 2k + 1. Lengths count elements, not bytes.
  *
  * A refusal is a number, and then nothing is written and all other bits of the answer are 0; 0 is no refusal. Every call on a table tests, in this order:
  *    1  the length is 0, not a multiple of 8 or above 32,776
@@ -15,7 +16,7 @@
  *    3  the chain leaves the table or meets a record twice
  *    8  the free chain leaves the table, meets a record twice or meets the chain, or a free record's left, right or tag is not 0
  *    4  a left or right of a chained record leaves the table or the chain
- *    5  the chained records are not one tree
+ *    5  the table is not empty, and the head's root is off the chain or named as a child, or a chained record is named more than once or reached from no root
  * and then, of the following, those that it names, in the order in which it names them:
  *    6  placements shorter than 2 times the records
  *    7  the pitch is 0
@@ -35,12 +36,13 @@
 extern "C" {
 #endif
 
-/* Draws the tree of a table: writes the column and the row of every node on the chain, and no other entry. Answers the refusal in bits 0 to 15, the number of nodes
+/* Draws the trees of a table one under the other, each with its root at column 0 in the row under the tree before; writes the column and the row of every node on the
+ * chain, and no other entry. The width is at most bt_allowed_width of the nodes of all trees, and the height at most their number. Answers the refusal in bits 0 to 15, the number of nodes
  * in bits 16 to 31, the width in bits 32 to 47, the height in bits 48 to 63. Refuses with 6. */
 uint64_t bt_draw(const uint8_t *table, size_t table_len, uint16_t *placements, size_t placements_len);
 
-/* Draws the tree of a table for a sheet that is wide and low: the mirror image of the tree, left and right of every node exchanged, as bt_draw draws it, with column
- * and row of every node then exchanged, and width and height as well. So the height is at most bt_allowed_width of the nodes, and the width at most their number.
+/* Draws the trees of a table for a sheet that is wide and low: their mirror images, left and right of every node exchanged, as bt_draw draws them, with column and row of
+ * every node then exchanged, and width and height as well. So the trees stand side by side with their roots in row 0, the height is at most bt_allowed_width of the nodes, and the width at most their number.
  * Writes the column and the row of every node on the chain, and no other entry, and answers as bt_draw does. Refuses with 6. bt_check is for upright drawings: it says
  * good of a wide one when columns and rows are exchanged, and left and right of every node on the chain. */
 uint64_t bt_draw_wide(const uint8_t *table, size_t table_len, uint16_t *placements, size_t placements_len);
@@ -72,9 +74,9 @@ uint64_t bt_allowed_width(uint64_t nodes);
 uint32_t bt_stroke(const uint8_t *table, size_t table_len, const uint16_t *placements, size_t placements_len, uint8_t pitch, uint64_t number, double *point,
                    size_t point_len);
 
-/* Hangs a leaf in the tree of a table: the first free record becomes the child of the parent on a side, 0 left or 1 right, with that tag, and follows its parent in the
- * chain. Parent 0, with either side, hangs the root in an empty tree. Answers the refusal in bits 0 to 15, the record in bits 16 to 31. Refuses with 9 if the side
- * is above 1, for parent 0 if the tree is not empty, for another parent if it is not on the chain or has a child on that side; then with 10. */
+/* Hangs a leaf in a tree of a table: the first free record becomes the child of the parent on a side, 0 left or 1 right, with that tag, and follows its parent in the
+ * chain. Parent 0, with either side, hangs the root in an empty table. Answers the refusal in bits 0 to 15, the record in bits 16 to 31. Refuses with 9 if the side
+ * is above 1, for parent 0 if the table is not empty, for another parent if it is not on the chain or has a child on that side; then with 10. */
 uint32_t bt_hang(uint8_t *table, size_t table_len, uint16_t parent, uint8_t side, uint16_t tag);
 
 /* Holds a place, the first half of bt_hang: answers what bt_hang would answer with the same parent and side, the record that would be used or a refusal, and writes
@@ -85,9 +87,9 @@ uint32_t bt_hold(const uint8_t *table, size_t table_len, uint16_t parent, uint8_
  * other, do what bt_hang does. Refuses as bt_hang does, then with 11. */
 uint32_t bt_hang_held(uint8_t *table, size_t table_len, uint16_t parent, uint8_t side, uint16_t tag, uint16_t record);
 
-/* Cuts a leaf off: takes it out of the chain and out of the link that names it, and puts it first among the free records, its other words 0. Cutting the only node leaves
- * the empty tree, and cutting a leaf just hung leaves every byte as it was before. Answers 0, or a refusal. Refuses
- * with 9 if the record is not on the chain or has a child. */
+/* Cuts a leaf off: takes it out of the chain and out of the link that names it, if any does, and puts it first among the free records, its other words 0. So a tree of one
+ * node goes; the head's root is cut only as the last node, which leaves the table empty. Cutting a leaf just hung leaves every byte as it was before. Answers 0, or a
+ * refusal. Refuses with 9 if the record is not on the chain or has a child, or is the head's root and not the only node. */
 uint32_t bt_cut(uint8_t *table, size_t table_len, uint16_t node);
 
 /* The parts of what bt_draw and bt_draw_wide answer; the first is in what bt_stroke, bt_hang and bt_hold answer too. */

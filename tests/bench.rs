@@ -1,8 +1,8 @@
-// Times draw, wide draw, check, strokes, hang, cut, the halves of a hang, the comparison of two lines and the whole program beside the Rust reference, and wide draw
-// beside draw, in one run.
+// Times draw, wide draw and check, of one tree and of several, strokes, hang, cut, the halves of a hang, the comparison of two lines and the whole program beside the
+// Rust reference, and wide draw beside draw, in one run.
 //   bench PLAN REFERENCE FOLDER: the two programs, and a folder for the tables
 mod oracle;
-use oracle::reference::cases::{fault_shapes, timed_fault, timed_pairs, timed_room, timed_sheet, timed_table, FAULTS, SHAPES, SHEETS};
+use oracle::reference::cases::{fault_shapes, timed_fault, timed_forest, timed_pairs, timed_room, timed_sheet, timed_table, FAULTS, SHAPES, SHEETS};
 use oracle::reference::Reference;
 use oracle::{ours, UPTO};
 use std::fs::File;
@@ -97,6 +97,25 @@ fn checks(theirs: &mut Reference, table: &[u8], places: &[u16], verdict: u32) ->
         || { black_box(theirs.check(black_box(table), places)); }))
 }
 
+/// The times of a draw, a wide draw and a check of several trees, and of a check of them side by side.
+fn forests(theirs: &mut Reference, n: usize, trees: usize) -> String {
+    let (table, beside) = timed_forest(n, trees);
+    let mut places = vec![0u16; 2 * (n + 1)];
+    let (mut widely, mut other) = (places.clone(), places.clone());
+    assert_eq!(ours::draw_wide(&table, &mut widely), theirs.draw_wide(&table, &mut other));
+    assert_eq!(widely, other);
+    assert_eq!(ours::draw(&table, &mut places), theirs.draw(&table, &mut other));
+    assert_eq!(places, other);
+    let drawn = places.clone();
+    let draws = two(
+        || { black_box(ours::draw(black_box(&table), &mut places)); },
+        || { black_box(theirs.draw(black_box(&table), &mut other)); });
+    let wides = two(
+        || { black_box(ours::draw_wide(black_box(&table), &mut widely)); },
+        || { black_box(theirs.draw_wide(black_box(&table), &mut other)); });
+    row("draw", draws) + &row("wide", wides) + &checks(theirs, &table, &drawn, 0) + " side by side" + &checks(theirs, &table, &beside, 0)
+}
+
 /// The times of a comparison of two lines, in nanoseconds, in the mean of a thousand.
 fn comparisons(theirs: &Reference) -> String {
     let pairs = timed_pairs(1000);
@@ -148,6 +167,12 @@ fn main() {
             let t = two(|| run(plan, &file), || run(reference, &file));
             line += &row("program", t);
             println!("{line}");
+        }
+    }
+    println!("several trees");
+    for n in [64, 512, 4096] {
+        for trees in [n / 64, n / 8, n].into_iter().filter(|&trees| trees > 1) {
+            println!("{n:>4} in {trees:>4} trees{}", forests(&mut theirs, n, trees));
         }
     }
     println!("strokes of drawn sheets");

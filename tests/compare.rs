@@ -1,9 +1,9 @@
-// Compares the calls of the library with the reference on fresh random cases: ours (cases.rs), and the reference's own; and on every small sheet, table and pair of
-// lines.
+// Compares the calls of the library with the reference on fresh random cases: ours (cases.rs), of one tree and of several, and the reference's own; and on every small
+// sheet, table and pair of lines.
 //   compare SEED CASES FOLDER: a share of the calls goes to FOLDER/share for the Python reference, a difference to FOLDER.
 mod oracle;
 use oracle::ours;
-use oracle::reference::cases::{every_pair, every_small_table, every_table, far_pairs, Cases, Change};
+use oracle::reference::cases::{every_pair, every_small_table, every_table, far_pairs, Case, Cases, Change};
 use oracle::reference::{reference_width, Reference};
 use std::fs;
 use std::io::Write;
@@ -20,12 +20,14 @@ struct Run {
     answers: [[u64; 32]; CALLS.len()],
 }
 
-/// The calls whose answers are counted; checks of sheets with many level lines, of ones whose lines cross and touch, of every small sheet, calls on every small table,
-/// and comparisons of every pair of lines on small grids or far apart, by themselves.
-const CALLS: [&str; 18] = [
+/// The calls whose answers are counted; checks of sheets with many level lines, of ones whose lines cross and touch, of every small sheet, of several trees and of
+/// nodes put on lines, draws and wide draws of several trees, calls on every small table, and comparisons of every pair of lines on small grids or far apart, by
+/// themselves.
+const CALLS: [&str; 22] = [
     "draw", "wide", "check", "stroke", "check of level lines", "check of every small sheet", "hang", "cut", "hold", "hang held", "draw of every small table",
     "hang of every small table", "cut of every small table", "hold of every small table", "hang held of every small table",
-    "check of tangled sheets", "compare", "compare of every pair",
+    "check of tangled sheets", "compare", "compare of every pair", "draw of several trees", "wide of several trees", "check of several trees",
+    "check of nodes put on lines",
 ];
 const DRAW: usize = 0;
 const WIDE: usize = 1;
@@ -41,6 +43,10 @@ const SMALL_DRAW: usize = 10;
 const TANGLED: usize = 15;
 const COMPARE: usize = 16;
 const EVERY_PAIR: usize = 17;
+const TREES_DRAW: usize = 18;
+const TREES_WIDE: usize = 19;
+const TREES_CHECK: usize = 20;
+const ON_LINES: usize = 21;
 
 /// A hang, a cut or a half of a hang of every small table is counted so many places behind HANG, CUT, HOLD or HELD.
 const SMALL: usize = 5;
@@ -113,13 +119,14 @@ impl Run {
     fn draw(&mut self, call: usize, table: &[u8], places: &mut [u16]) -> u64 {
         let before = places.to_vec();
         let mut theirs = before.clone();
-        let (a, b) = if call == WIDE {
+        let wide = call == WIDE || call == TREES_WIDE;
+        let (a, b) = if wide {
             (ours::draw_wide(table, places), self.reference.draw_wide(table, &mut theirs))
         } else {
             (ours::draw(table, places), self.reference.draw(table, &mut theirs))
         };
         self.answers[call][(b & 31) as usize] += 1;
-        self.to_share(if call == WIDE { b'w' } else { b'd' }, table, &before, a, &bytes_of(places));
+        self.to_share(if wide { b'w' } else { b'd' }, table, &before, a, &bytes_of(places));
         let told = format!("{}: ours {a:#x}, reference {b:#x}, placements {}", CALLS[call], if *places == theirs { "equal" } else { "differ" });
         self.judge(a == b && *places == theirs, told, table, &before);
         b & 0xffff
@@ -267,6 +274,48 @@ impl Run {
         }
     }
 
+    /// Several trees of n nodes, all cut off, the head's root last.
+    fn cut_down(&mut self, cases: &mut Cases, n: usize) {
+        let (mut table, calls) = cases.cut_down(n);
+        for (change, says) in calls {
+            let answer = self.change(0, &mut table, change);
+            self.must(answer == says, format!("{change:?}, of {n} nodes in several trees: {answer}, not {says}"), &table, &[]);
+        }
+        self.must(table[..4] == [0; 4], format!("{n} nodes in several trees, all cut off"), &table, &[]);
+    }
+
+    /// Every call on a case: its table drawn wide, and that turned, drawn, and its placements checked and plotted, as drawn, as given, with nodes put on lines and with
+    /// nodes moved; and changed.
+    fn case(&mut self, cases: &mut Cases, mut case: Case) {
+        let (draw, wide, check) = if case.several { (TREES_DRAW, TREES_WIDE, TREES_CHECK) } else { (DRAW, WIDE, CHECK) };
+        let mut places = case.places.clone();
+        self.draw(wide, &case.table, &mut places);
+        self.turned(&case.table, &places);
+        let refusal = self.draw(draw, &case.table, &mut case.places);
+        self.check(check, &case.table, &case.places);
+        self.strokes(cases, &case.table, &case.places);
+        self.check(if case.level { LEVEL } else { check }, &case.table, &case.points);
+        for sheet in [&case.places, &case.points] {
+            if let (0, true) = (refusal, case.several) {
+                if let Some(places) = cases.on_lines(&case.table, sheet) {
+                    self.check(ON_LINES, &case.table, &places);
+                }
+            }
+        }
+        let records = case.places.len() / 2;
+        if records > 0 {
+            for _ in 0..1 + cases.below(2) {
+                let record = cases.below(records);
+                cases.move_node(&mut case.places, record, records);
+            }
+        }
+        self.check(check, &case.table, &case.places);
+        self.strokes(cases, &case.table, &case.places);
+        self.changes(cases, &case.table);
+        let (table, places) = cases.tangled(case.several);
+        self.check(TANGLED, &table, &places);
+    }
+
     /// The halves of a hang of a small table, the second one given each of these records.
     fn small_halves(&mut self, table: &[u8], place: u16, records: std::ops::Range<u16>) {
         let (parent, side) = (place / 2, place as u8 % 2);
@@ -298,7 +347,7 @@ impl Run {
         }
     }
 
-    /// Every sheet of a tree of n nodes on a grid of 3 by 3.
+    /// Every sheet of n nodes, in one tree or several, on a grid of 3 by 3.
     fn every_sheet(&mut self, n: usize) {
         for table in every_table(n) {
             for sheet in 0..9usize.pow(n as u32) {
@@ -331,26 +380,9 @@ fn main() {
     let mut cases = Cases::new(seed);
     for i in 0..count {
         run.sharing = i % 12 == 0;
-        let mut case = cases.next();
-        let mut places = case.places.clone();
-        run.draw(WIDE, &case.table, &mut places);
-        run.turned(&case.table, &places);
-        run.draw(DRAW, &case.table, &mut case.places);
-        run.check(CHECK, &case.table, &case.places);
-        run.strokes(&mut cases, &case.table, &case.places);
-        run.check(if case.level { LEVEL } else { CHECK }, &case.table, &case.points);
-        let records = case.places.len() / 2;
-        if records > 0 {
-            for _ in 0..1 + cases.below(2) {
-                let record = cases.below(records);
-                cases.move_node(&mut case.places, record, records);
-            }
+        for case in [cases.next(), cases.next_forest()] {
+            run.case(&mut cases, case);
         }
-        run.check(CHECK, &case.table, &case.places);
-        run.strokes(&mut cases, &case.table, &case.places);
-        run.changes(&mut cases, &case.table);
-        let (table, places) = cases.tangled();
-        run.check(TANGLED, &table, &places);
         for _ in 0..6 {
             run.compare(COMPARE, cases.pair());
         }
@@ -359,6 +391,7 @@ fn main() {
     for n in [1, 2, 3, 10, 30, 100, 1000, 4096] {
         run.sharing = n < 100;
         run.grown(&mut cases, n);
+        run.cut_down(&mut cases, n);
     }
     run.every_small_table(&mut cases);
     for n in 1..=4 {

@@ -155,12 +155,12 @@ def large(t, rng):
         hang_cut.seen(t)
 
 
-def hold_case(rng):
+def hold_case(rng, tree=None):
     """A table, a parent and a side for the first half."""
-    return hang_cut.hang_case(rng)[:3]
+    return hang_cut.hang_case(rng, tree)[:3]
 
 
-def held_case(rng):
+def held_case(rng, tree=None):
     """A table, a parent, a side, a tag and a record for the second half."""
-    case = hang_cut.hang_case(rng)
+    case = hang_cut.hang_case(rng, tree)
     return (*case, given(case[0], rng))

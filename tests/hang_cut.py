@@ -183,10 +183,7 @@ def small_tables(rng):
     """The table of every tree of up to 4 nodes, with two free records and one on neither chain."""
     for n in range(5):
         for links in trees.every_links(n):
-            tree = trees.Tree(n)
-            for v, (a, b) in enumerate(links, 1):
-                tree.left[v], tree.right[v] = a, b
-            yield trees.table(tree, rng, extra=1, free=2)
+            yield trees.table(trees.from_links(links), rng, extra=1, free=2)
 
 
 def every_place(t, rng):
@@ -278,21 +275,21 @@ def random_trees(t, rng):
             t.stroke(rng.randint(1, 255), rng.randrange(2 * n))
 
 
-def table_for(rng):
-    """A table for a call that writes: of few nodes, with few free records, and now and then with a word written over."""
-    data, record = trees.table(trees.uniform(rng.randint(0, 6), rng), rng, extra=rng.randint(0, 2), free=rng.randint(0, 3))
+def table_for(rng, tree=None):
+    """A table for a call that writes: of that tree, or of one of few nodes, with few free records, and now and then with a word written over."""
+    data, record = trees.table(tree or trees.uniform(rng.randint(0, 6), rng), rng, extra=rng.randint(0, 2), free=rng.randint(0, 3))
     if rng.random() < 0.15:
         at = 2 * rng.randrange(len(data) // 2)
         data = data[:at] + rng.randrange(len(data) // 8 + 1).to_bytes(2, 'little') + data[at + 2:]
     return data, rng.choice((rng.choice(record), rng.randrange(len(data) // 8 + 1)))
 
 
-def hang_case(rng):
+def hang_case(rng, tree=None):
     """A table, a parent, a side and a tag for a hang."""
-    data, parent = table_for(rng)
+    data, parent = table_for(rng, tree)
     return data, parent, rng.choice((0, 0, 0, 1, 1, 1, 2)), rng.choice((0, rng.randrange(65536)))
 
 
-def cut_case(rng):
+def cut_case(rng, tree=None):
     """A table and a node for a cut."""
-    return table_for(rng)
+    return table_for(rng, tree)

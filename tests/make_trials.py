@@ -2,8 +2,8 @@
 """Makes crates/trials/stdin and crates/trials/stdout anew, always the same, from a fixed seed.
 
 The cases are sheets of document 01, every refusal and every verdict in several ways, sheets with level lines, random trees, hangs and cuts (hang_cut.py),
-hangs by halves (halves.py), and pairs of lines and sheets whose lines cross or touch (crossings.py); their parts, and each of the sheets, pairs of lines, free chains
-and series of calls that were made by hand, have names, which are printed.
+hangs by halves (halves.py), pairs of lines and sheets whose lines cross or touch (crossings.py), and tables of several trees, put to every call (forests.py); their
+parts, and each of the sheets, tables, pairs of lines, free chains and series of calls that were made by hand, have names, which are printed.
 Each table that is drawn is drawn wide as well; each that is refused, and the drawing of each larger random tree, is asked for strokes; and each that is refused for its
 bytes is asked to hang, to cut, and for the halves of a hang.
 What must be printed comes from the reference program alone (reference/racksheet.py), never from our code.
@@ -20,6 +20,7 @@ here = os.path.dirname(os.path.abspath(__file__))
 sys.path[:0] = [here, os.path.join(here, 'reference')]
 sys.dont_write_bytecode = True
 import crossings
+import forests
 import halves
 import hang_cut
 import racksheet
@@ -161,6 +162,19 @@ class Trials:
         self.changed_records(before)
         return refusal
 
+    def turned(self, data, record):
+        """A table drawn wide, and the drawing, with columns and rows exchanged, checked against the table with left and right exchanged: good."""
+        self.table(data)
+        self.filled(2 * (len(data) // 8), *SEQUENCE)
+        self.wide()
+        places = list(self.places)
+        for k in record[1:]:
+            places[2 * k], places[2 * k + 1] = places[2 * k + 1], places[2 * k]
+        self.table(racksheet.exchange(data, UPTO)[1])
+        self.numbers(places)
+        self.check()
+        assert self.lines[-1] == 'check 0'
+
     def compare(self, *ends):
         self.case(15, more=packed(ends))
         self.lines.append('compare ' + COMPARED[racksheet.compare(*ends)])
@@ -258,12 +272,13 @@ def refusals(t):
              [(3, 0, 2)], [(6, 0, 256)], [(6, 0, 7), (2, 1, 50)]]           # 3
     links = [[(2, 1, 7)], [(2, 2, 65535)], [(1, 1, 4096)], [(5, 0, 0)], [(0, 0, 2)], [(2, 2, 256), (3, 1, 3)]]  # 4
     tree = [[(0, 1, 0)], [(0, 1, 7)], [(0, 1, 65535)], [(0, 0, 0)], [(0, 1, 2)], [(0, 1, 3)], [(6, 1, 1)],
-            [(6, 2, 1)], [(2, 1, 4)], [(2, 1, 2)], [(6, 1, 6)], [(1, 1, 0)], [(1, 2, 2)], [(1, 2, 0), (6, 1, 3)],
-            [(5, 1, 5)], [(1, 2, 0)], [(1, 2, 0), (4, 2, 3)], [(0, 0, 0), (0, 1, 6)]]                           # 5
-    for edits in head + chain + links + tree:
+            [(6, 2, 1)], [(2, 1, 4)], [(2, 1, 2)], [(6, 1, 6)], [(1, 2, 2)], [(1, 2, 0), (6, 1, 3)],
+            [(5, 1, 5)], [(1, 2, 0), (4, 2, 3)], [(0, 0, 0), (0, 1, 6)]]                                        # 5
+    apart = [[(1, 1, 0)], [(1, 2, 0)], [(5, 1, 0)]]                         # two trees, good since document 02, Paper 8
+    for edits in head + chain + links + tree + apart:
         t.every(packed(hang_cut.edited(good, *edits)), 1000, 3, leaf=6)
         t.every(packed(hang_cut.edited(good, *edits)), 1000, 3, short=2, leaf=6)
-    two = plain([(0, 0), (3, 0), (2, 0)])                                   # a cycle off the root
+    two = plain([(0, 0), (3, 0), (2, 0)])                                   # a cycle, reached from no root
     t.every(packed(two), 1, 1)
     long = plain([(0, 0)] * 4096)                                           # a long chain that runs into itself
     for last in (1, 4096, 4097):
@@ -485,11 +500,16 @@ def level_case(rng):
     return check_case(rng, level=True)
 
 
-def draw_case(rng, low=14, high=40):
+def draw_case(rng, low=14, high=40, tree=None):
     """A table and placements for a draw, wide or not."""
-    tree = rng.choice(trees.shapes(rng)[5:])[1](rng.randint(low, high))
+    tree = tree or rng.choice(trees.shapes(rng)[5:])[1](rng.randint(low, high))
     data, _ = trees.table(tree, rng, extra=rng.randint(0, 2))
     return data, sequence(2 * (len(data) // 8), *SEQUENCE)
+
+
+def forest_case(rng):
+    """A table of several trees and placements for a draw, wide or not."""
+    return draw_case(rng, tree=forests.some_trees(rng, 12))
 
 
 def stroke_case(rng, low=2, high=9):
@@ -537,9 +557,12 @@ def large_checks(t, rng, points_of):
 
 
 def telling(t):
-    """For each slip of a drawing, a check, a stroke, a hang, a cut, a half of a hang or a comparison, up to a dozen cases that tell it."""
+    """For each slip of a drawing, a check, a stroke, a hang, a cut, a half of a hang or a comparison, up to a dozen cases that tell it; for one of several
+    trees up to half a dozen, of such tables."""
     makers = {'check': check_case, 'level': level_case, 'crossing': crossings.sheet_case, 'compare': crossings.pair_case, 'stroke': stroke_case,
-              'hang': hang_cut.hang_case, 'cut': hang_cut.cut_case, 'hold': halves.hold_case, 'held': halves.held_case}
+              'hang': hang_cut.hang_case, 'cut': hang_cut.cut_case, 'hold': halves.hold_case, 'held': halves.held_case,
+              'forest draw': forest_case, 'forest wide': forest_case, 'forest check': forests.sheet_case, 'forest stroke': forests.stroke_case,
+              'forest hang': forests.hang_case, 'forest cut': forests.cut_case, 'forest hold': forests.hold_case, 'forest held': forests.held_case}
     for kind, name, *changes in slips.SLIPS:
         if len(slips.CALLS[kind]) > 1:
             continue
@@ -551,27 +574,26 @@ def telling(t):
             case = makers.get(kind, draw_case)(rng)
             if slips.answer(wrong, ask, *case) != slips.answer(racksheet, ask, *case):
                 told += 1
-                asked(t, kind, *case)
-            if told == 12:
+                asked(t, ask, *case)
+            if told == (6 if kind.startswith('forest') else 12):
                 break
 
 
-def asked(t, kind, *case):
-    """A case of a call, stored."""
-    if kind == 'compare':
+def asked(t, call, *case):
+    """A case of a call of the reference program, stored."""
+    if call == 'compare':
         t.compare(*case)
         return
     data, *more = case
     t.table(data)
-    if kind in ('check', 'level', 'crossing', 'stroke'):
+    if call in ('check', 'stroke'):
         t.numbers(more[0])
         more = more[1:]
-    elif kind in ('draw', 'wide'):
+    elif call in ('draw', 'draw_wide'):
         t.filled(len(more[0]), *SEQUENCE)
         more = more[1:]
-    {'draw': t.draw, 'check': t.check, 'level': t.check, 'crossing': t.check, 'wide': t.wide, 'stroke': t.stroke, 'hang': t.hang, 'cut': t.cut, 'hold': t.hold,
-     'held': t.held}[kind](*more)
-    if kind == 'draw':
+    {'draw': t.draw, 'check': t.check, 'draw_wide': t.wide, 'stroke': t.stroke, 'hang': t.hang, 'cut': t.cut, 'hold': t.hold, 'hang_held': t.held}[call](*more)
+    if call == 'draw':
         t.check()
 
 
@@ -579,18 +601,7 @@ def turned(t, rng):
     """Wide drawings with columns and rows exchanged, checked against the table with left and right exchanged: all good."""
     for name, make in trees.shapes(rng):
         for n in (rng.randint(2, 13), rng.randint(14, 60)):
-            tree = make(n)
-            data, record = trees.table(tree, rng, extra=rng.randint(0, 2))
-            t.table(data)
-            t.filled(2 * (len(data) // 8), *SEQUENCE)
-            t.wide()
-            places = list(t.places)
-            for k in record[1:]:
-                places[2 * k], places[2 * k + 1] = places[2 * k + 1], places[2 * k]
-            t.table(racksheet.exchange(data, UPTO)[1])
-            t.numbers(places)
-            t.check()
-            assert t.lines[-1] == 'check 0'
+            t.turned(*trees.table(make(n), rng, extra=rng.randint(0, 2)))
 
 
 def random_trees(t, rng):
@@ -657,6 +668,20 @@ def parts(t):
         ('the halves of a hang at every place', lambda: halves.every_place(t, seeded('every place by halves'))),
         ('random calls by halves', lambda: halves.random_calls(t, seeded('halves'))),
         ('halves in large tables', lambda: halves.large(t, seeded('large tables by halves'))),
+        ('tables of several trees', lambda: forests.tables(t)),
+        ('trees one under the other', lambda: forests.stacks(t, seeded('stacks'))),
+        ('sheets of several trees', lambda: forests.sheets(t)),
+        ('strokes of several trees', lambda: forests.strokes(t, lambda number: bits(Fraction(number)))),
+        ('several trees hung from and cut', lambda: forests.series(t)),
+        ('every small forest', lambda: forests.every_forest(t, seeded('every forest'))),
+        ('every record of small forests cut', lambda: forests.every_cut(t, seeded('every cut of forests'))),
+        ('a node hung at every place of small forests', lambda: forests.every_place(t, seeded('every place of forests'))),
+        ('forests cut down', lambda: forests.cut_down(t, seeded('cut down'))),
+        ('random calls on forests', lambda: forests.random_calls(t, seeded('calls on forests'))),
+        ('damaged tables of several trees', lambda: forests.damaged(t, seeded('damaged forests'))),
+        ('random checks of several trees', lambda: random_checks(t, seeded('sheets of forests'), 260, forests.sheet_case)),
+        ('random forests', lambda: forests.random_forests(t, seeded('forests'))),
+        ('turned wide drawings of several trees', lambda: forests.turned(t, seeded('turned forests'))),
     ]
 
 

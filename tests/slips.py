@@ -3,8 +3,9 @@
 
 A slip is a change of a line or two of the reference program, made in memory; the file itself stays as it is.
 Only cases of the call that the slip is of are counted; a slip of the table, its free chain too, has to be told by every call, and one of the placements by every
-call that is lent some. make_trials.py seeks cases that tell each slip of a drawing, a check (of level lines with sheets of such lines, of crossings and touches with
-sheets of those), a stroke, a hang, a cut, a half of a hang (hold, and hang held) or a comparison of two lines, and stores what the unchanged program says of them.
+call that is lent some; for one of several trees ("forest") only cases of accepted tables that hold several. make_trials.py seeks cases that tell each slip of a drawing,
+a check (of level lines with sheets of such lines, of crossings and touches with sheets of those), a stroke, a hang, a cut, a half of a hang (hold, and hang held) or a
+comparison of two lines, and stores what the unchanged program says of them.
 """
 import os
 import sys
@@ -17,7 +18,9 @@ UPTO = int(open(os.path.join(here, 'upto')).read())     # requests 1 to UPTO of 
 # The calls of the reference program whose answers a kind of slip changes.
 CALLS = {'draw': ['draw'], 'check': ['check'], 'level': ['check'], 'crossing': ['check'], 'compare': ['compare'], 'wide': ['draw_wide'], 'stroke': ['stroke'],
          'hang': ['hang'], 'cut': ['cut'], 'hold': ['hold'], 'held': ['hang_held'], 'table': ['draw', 'check', 'draw_wide', 'stroke', 'hang', 'cut', 'hold', 'hang_held'],
-         'placements': ['draw', 'check', 'draw_wide', 'stroke']}
+         'placements': ['draw', 'check', 'draw_wide', 'stroke'],
+         'forest draw': ['draw'], 'forest wide': ['draw_wide'], 'forest check': ['check'], 'forest stroke': ['stroke'], 'forest hang': ['hang'], 'forest cut': ['cut'],
+         'forest hold': ['hold'], 'forest held': ['hang_held']}
 
 TIE = 'size[L[v]] >= size[R[v]]'
 TIE_BY = 'size[L[v]] > size[R[v]] or size[L[v]] == size[R[v]] and '
@@ -110,6 +113,88 @@ LATE = [MET, MET.replace('return refuse(8)', LATER), WORDS, WORDS.replace('retur
 FOUR = 'if child != 0 and child not in on_chain:'
 AFTER_FOUR = 'root = word(data, 0, LEFT)\n'
 NO_TREE, A_TREE = 'return Table(records=records, free=free)', 'return Table(0, records, chain, free, root, roots, left, right, tag)'
+
+TREES, TREE = 'for root in roots:', 'd = draw_tree(root, left, right, size)'
+AT = 'at[b] = (c, height + r)'
+WIDTH, HEIGHT, SIZES = 'width = max(width, d.width)', 'height = height + d.height', 'return at, width, height'
+OTHERS = 'roots = [root] + [b for b in chain if b != root and named[b] == 0]'
+OF_FIRST = 'preorder(t.roots[:1], t.left, t.right)'                    # the nodes of the head's root's tree
+BY_TREE = 'FILE[0] = {b: r for r in t.roots for b in preorder([r], t.left, t.right)}'
+SINGLE = '[r for r in t.roots if t.left[r] == t.right[r] == 0]'
+SINGLE_ON = 'any(box_on_a_line([span], {b: at[b] for b in (r, *span[4])}) for span in extents(lines, at) for r in %s)' % SINGLE
+SPANS = 'spans = extents(lines, at)'
+ON_IT = 'on_line((column, row), at[line[0]], at[line[1]]):'
+ROW_BY_ROW, TO_BOTTOM = 'range(bisect.bisect_left(rows, top), len(boxes))', 'if row > bottom:'
+IN_COLUMNS, IN_ROWS = 'min(p[0], q[0]) <= b[0] <= max(p[0], q[0]) and', 'min(p[1], q[1]) <= b[1] <= max(p[1], q[1]))'
+ROWS = 'rows = [(min(ys), max(ys)) for ys in ([at[b][1] for b in preorder([r], t.left, t.right)] for r in t.roots)]'
+NO_ROOT, ROOT_NAMED, TWICE = 'if root not in on_chain:', 'if named[root] != 0:', 'if named[b] > 1:'
+STILL = 'if upto < 8 and b != root and named[b] != 1:'
+NAMES = 'for child in (left[b], right[b]):\n            if child != 0:\n                named'
+REACH_ANY = 'if len(set(preorder(roots, left, right))) != len(chain):'
+UNNAMED = 'root = next((b for b in chain if not any(b in (left[c], right[c]) for c in chain)), 0)\n    ' + NO_ROOT
+HEAD_ROOT, OWN_ROOT = 'if upto >= 8 and node == t.root and len(t.chain) > 1:', 'if node == t.root:\n'
+
+
+def cycle(length):
+    """A cycle of so many nodes that is reached from no root is passed over."""
+    steps = 'b in [x for path in paths(b, left, right, %d) for x in path[-1:]]' % length
+    return REACH, 'if len(preorder(roots, left, right)) + sum(%s for b in chain) != len(chain):' % steps
+
+
+def held_against(cause):
+    """A node on a line is seen, but by its own lines, only where that cause holds of the node b, the line and the table, FILE[0]."""
+    return CROSSED, 'FILE[0] = t\n        ' + CROSSED, ON_IT, ON_IT.replace(':', ' and %s:' % cause)
+
+
+# Slips of how several trees are drawn, wide or not.
+STACKING = [
+    ('trees in the order of their records', OTHERS, OTHERS.replace('in chain', 'in sorted(chain)')),
+    ('trees in the order of the chain from its end', OTHERS, OTHERS.replace('in chain', 'in chain[::-1]')),
+    ('trees in the order in which the chain first comes to a node of them', OTHERS,
+     OTHERS + '\n    roots[1:] = sorted(roots[1:], key=lambda r: min(map(chain.index, preorder([r], left, right))))'),
+    ("the head's root's tree where its root is in the chain", OTHERS, 'roots = [b for b in chain if named[b] == 0]'),
+    ("the head's root's tree is the last", OTHERS, 'roots = [b for b in chain if b != root and named[b] == 0] + [root]'),
+    ("the tree of the chain's first root first, and the head's root's second", OTHERS, OTHERS + '; roots[:2] = sorted(roots[:2], key=chain.index)'),
+    ('the largest tree first', TREES, 'for root in sorted(roots, key=lambda r: -size[r]):'),
+    ('another tree begins at column 1', AT, 'at[b] = (c + (root != roots[0]), height + r)'),
+    ('another tree begins at the greatest column so far', AT, 'at[b] = (c + max(width - 1, 0), height + r)'),
+    ('trees side by side', AT, 'at[b] = (width + c, r)', WIDTH, 'width = width + d.width', HEIGHT, 'height = max(height, d.height)'),
+    ('all trees from the top', AT, 'at[b] = (c, r)'),
+    ('the second tree begins in the last row of the first', AT, 'at[b] = (c, height - (height > 0) + r)'),
+    ('each tree begins in the last row of the one before', HEIGHT, 'height = height + d.height - (root != roots[-1])'),
+    ('a row is left free under the first tree', AT, 'at[b] = (c, height + (height > 0) + r)'),
+    ('a row is left free between trees', HEIGHT, 'height = height + d.height + (root != roots[-1])'),
+    ('a tree begins under as many rows as there are nodes before', HEIGHT, 'height = height + len(d.boxes)'),
+    ('all other trees begin right under the first', AT, 'at[b] = (c, r + (0 if root == roots[0] else FILE[0]))',
+     HEIGHT, 'FILE[0] = d.height if root == roots[0] else FILE[0]; height = max(height, FILE[0] + d.height if root != roots[0] else d.height)'),
+    ('the height of the last tree is forgotten', SIZES, 'return at, width, height - (d.height if len(roots) > 1 else 0)'),
+    ('the height of the first tree alone', HEIGHT, 'FILE[0] = d.height if root == roots[0] else FILE[0]; height = height + d.height',
+     SIZES, 'return at, width, FILE[0] if roots else 0'),
+    ('the greatest height', SIZES, 'return at, width, max((draw_tree(r, left, right, size).height for r in roots), default=0)'),
+    ('the width of the first tree alone', WIDTH, 'width = width or d.width'),
+    ('the width of the last tree alone', WIDTH, 'width = d.width'),
+    ('the widths are added', WIDTH, 'width = width + d.width'),
+    ('the first tree alone is drawn', TREES, 'for root in roots[:1]:'),
+    ('two trees alone are drawn', TREES, 'for root in roots[:2]:'),
+    ('other single nodes are not drawn', TREES, 'for root in [r for r in roots if r == roots[0] or size[r] > 1]:'),
+    ('a single node takes no row', HEIGHT, 'height = height + d.height - (size[root] == 1)'),
+    ('other trees are drawn as seen in a mirror', TREE, 'd = draw_tree(root, *((left, right) if root == roots[0] else (right, left)), size)'),
+    ('other trees are flipped', AT, 'at[b] = (c if root == roots[0] else d.width - 1 - c, height + r)'),
+]
+# Slips of the places below several trees at which a hang, or either half of it, is refused.
+PLACING_TREES = [
+    ('nothing is hung below another tree', OFF, 'if parent not in %s:' % OF_FIRST),
+    ('nothing is hung below another root', OFF, 'if parent not in t.chain or parent in t.roots[1:]:'),
+    ('another root is hung where there are several', EMPTY, EMPTY.replace('t.chain', 'len(t.roots) == 1')),
+]
+# Slips of what is written by a hang below one of several trees.
+WRITING_TREES = [
+    ('chained at the end of its tree', FOLLOWED,
+     'p = max(*[preorder([r], t.left, t.right) for r in t.roots if parent in preorder([r], t.left, t.right)] or [[0]], key=t.chain.index) if parent else 0; '
+     'new = with_word(new, f, NEXT, word(data, p, NEXT))', FOLLOWS, 'new = with_word(new, p, NEXT, f)'),
+    ("the head's root is written over by what is hung below another root", LINKED,
+     LINKED + '\n        if parent in t.roots[1:]:\n            new = with_word(new, 0, LEFT, f)'),
+]
 
 # Slips of what is written by a hang, whole or by halves.
 WRITING = [
@@ -484,9 +569,98 @@ SLIPS = [
      A_TREE, A_TREE.replace('return', 'return refuse(8) if late else')),
     ('table', 'a child may be free', FOUR, FOUR.replace('not in on_chain', 'not in on_chain and child not in free')),
     ('table', 'a table of 4,098 records is taken', 'MAX_BYTES = 32776 ', 'MAX_BYTES = 32784 '),
-    ('table', 'a node need not be named', 'named[b] != 1', 'named[b] > 1', REACH, 'if False:'),
     ('table', 'a node need not be reached', REACH, 'if False:'),
+    ('table', 'a second root is still 5', STILL, STILL.replace('upto < 8 and ', '')),
+    ('table', 'more than two trees are 5', REACH, REACH.replace(':', ' or len(roots) > 2:')),
+    ('table', 'another tree of one node is 5', REACH, REACH.replace(':', ' or any(left[r] == right[r] == 0 for r in roots[1:]):')),
+    ('table', "another root before the head's in the chain is 5", REACH, REACH.replace(':', ' or any(chain.index(r) < chain.index(root) for r in roots[1:]):')),
+    ('table', 'a node may be named more than once', TWICE, TWICE.replace(':', ' and looped(left, right):'), REACH, REACH_ANY),
+    ('table', 'left and right may name one node', NAMES, NAMES.replace('(left[b], right[b])', '{left[b], right[b]}'), REACH, REACH_ANY),
+    ('table', 'nodes of two trees may name one node', TWICE,
+     TWICE.replace(':', ' and (looped(left, right) or any(left[x] == right[x] == b for x in chain)):'), REACH, REACH_ANY),
+    ('table', "the head's root may be named", ROOT_NAMED, ROOT_NAMED.replace(':', ' and looped(left, right):'), REACH, REACH_ANY),
+    ('table', "with no head's root the trees are those of the chain", NO_ROOT, 'if root == 0:\n        ' + UNNAMED),
+    ('table', "a head's root off the chain is passed over", NO_ROOT, 'if root not in on_chain:\n        ' + UNNAMED),
+    ('table', 'a cycle of one node is passed over', *cycle(1)),
+    ('table', 'a cycle of two nodes is passed over', *cycle(2)),
+    ('table', 'a cycle of three nodes is passed over', *cycle(3)),
     ('placements', 'placements may be one short', 'len(placements) < 2', 'len(placements) + 1 < 2'),
+    *[('forest draw', *slip) for slip in STACKING],
+    ('forest draw', 'the nodes of the first tree alone are counted', DRAWN, DRAWN.replace('len(t.chain)', 'len(%s)' % OF_FIRST)),
+    *[('forest wide', *slip) for slip in STACKING],
+    ('forest wide', 'the nodes of the first tree alone are counted', WIDELY, WIDELY.replace('len(t.chain)', 'len(%s)' % OF_FIRST)),
+    ('forest wide', 'trees from the right', WIDE, WIDE.replace('t.roots', 't.roots[::-1]')),
+    ('forest wide', 'other trees from the right', WIDE, WIDE.replace('t.roots', 't.roots[:1] + t.roots[:0:-1]')),
+    ('forest wide', 'trees one under the other', TURNED,
+     'wide, top = {}, 0\n    for root in t.roots:\n        one, w, _ = plan_of([root], t.right, t.left)\n'
+     '        wide.update({b: (r, top + c) for b, (c, r) in one.items()})\n        top += w'),
+    ('forest wide', 'the first tree alone is mirrored', WIDE,
+     'first = %s; at, width, height = plan_of(t.roots, *({b: x[b in first][b] for b in t.chain} for x in ((t.left, t.right), (t.right, t.left))))' % OF_FIRST),
+    ('forest wide', 'columns and rows of the first tree alone are exchanged', TURNED,
+     'first = set(%s); wide = {b: (r, c) if b in first else (c, r) for b, (c, r) in at.items()}' % OF_FIRST),
+    ('forest check', 'a node on a line is found by its own lines alone', ON, 'if False and'),
+    ('forest check', 'a single node on a level line is not seen', ON, OFF_LEVEL),
+    ('forest check', 'a single node on a steep line is not seen', ON, ON + ' at[line[0]][0] != at[line[1]][0] and'),
+    ('forest check', 'a single node on a slanting line is not seen', ON, ON + ' (at[line[0]][0] == at[line[1]][0] or at[line[0]][1] == at[line[1]][1]) and'),
+    ('forest check', 'a single node on a line to the left is not seen', ON, ON + ' at[line[1]][0] >= at[line[0]][0] and'),
+    ('forest check', "a single node that is the head's root is not held against lines", *held_against('b != FILE[0].root')),
+    ('forest check', "of single nodes the head's root alone is held against lines", *held_against('b == FILE[0].root')),
+    ('forest check', 'the first of the single nodes alone is held against lines', *held_against('[b] == %s[:1]' % SINGLE.replace('t.', 'FILE[0].'))),
+    ('forest check', 'the last of the single nodes alone is held against lines', *held_against('[b] == %s[-1:]' % SINGLE.replace('t.', 'FILE[0].'))),
+    ('forest check', "a single node is held against lines of the head's root's tree alone", *held_against('line[0] in ' + OF_FIRST.replace('t.', 'FILE[0].'))),
+    ('forest check', 'a single node before a line in the chain is not held against it', *held_against('FILE[0].chain.index(b) > FILE[0].chain.index(line[0])')),
+    ('forest check', 'a single node behind a line in the chain is not held against it', *held_against('FILE[0].chain.index(b) < FILE[0].chain.index(line[0])')),
+    ('forest check', 'a node in the rectangle of a line is on it', ON_IT, 'True:'),
+    ('forest check', 'a node next to a line is on it', ON_IT, 'abs(cross(at[line[0]], at[line[1]], (column, row))) * 2 <= max(hi - lo, bottom - top):'),
+    ('forest check', 'a node in the row of a level line is on it', ON, 'if b not in line and', IN_COLUMNS, ''),
+    ('forest check', 'a node in the column of a steep line is on it', ROW_BY_ROW, 'range(len(boxes))', TO_BOTTOM, 'if False:', IN_ROWS, 'True)'),
+    ('forest check', 'a single node on a line is 23', TOUCHED, 'if %s:\n            return 23\n        ' % SINGLE_ON + TOUCHED),
+    ('forest check', 'a single node on a line comes before a crossing', CROSSED, 'if %s:\n            return 25\n        ' % SINGLE_ON + CROSSED),
+    ('forest check', 'a single node on a line comes before a child above its parent', SAME, SAME + '\n    if %s:\n        return 25' % SINGLE_ON),
+    ('forest check', 'a single node on a line comes behind children in the other order', TOUCHED,
+     'late = box_on_a_line(spans, at)\n        if touching:\n            return 25', UNORDERED, UNORDERED.replace('0', '25 if late else 0')),
+    ('forest check', 'nodes of different trees may be at one point', SAME,
+     'if any(len({at[b] for b in one}) != len(one) for one in (preorder([r], t.left, t.right) for r in t.roots)):\n        return 21'),
+    ('forest check', 'a single node may be at the point of another node', SAME,
+     'several = [b for b in t.chain if b not in t.roots or t.left[b] or t.right[b]]\n    if len({at[b] for b in several}) != len(several):\n        return 21'),
+    ('forest check', 'trees are looked at one by one', SEEN, SEEN + '; ' + BY_TREE, COMPARE, 'kind = FILE[0][b] != FILE[0][e] or compare(',
+     ON_IT, ON_IT.replace(':', ' and FILE[0][b] == FILE[0][line[0]]:')),
+    ('forest check', 'lines of different trees may touch', SEEN, SEEN + '; ' + BY_TREE, TOUCH, TOUCH.replace(':', ' and FILE[0][b] == FILE[0][e]:'),
+     ON_IT, ON_IT.replace(':', ' and FILE[0][b] == FILE[0][line[0]]:')),
+    ('forest check', 'lines of different trees may cross', SEEN, SEEN + '; ' + BY_TREE, SOUGHT, SOUGHT.replace(':', ' and FILE[0][b] == FILE[0][e]:')),
+    ('forest check', "the lines of the head's root's tree alone are compared", SPANS,
+     SPANS.replace('lines,', '[line for first in [set(%s)] for line in lines if line[0] in first],' % OF_FIRST)),
+    ('forest check', "22 in the head's root's tree alone", ABOVE, ABOVE.replace(':', ' and b in %s:' % OF_FIRST)),
+    ('forest check', '22 not where the parent is another root', ABOVE, ABOVE.replace(':', ' and b not in t.roots[1:]:')),
+    ('forest check', "24 in the head's root's tree alone", ORDER, ORDER + ' and v in ' + OF_FIRST),
+    ('forest check', '24 not where the parent is another root', ORDER, ORDER + ' and v not in t.roots[1:]'),
+    ('forest check', 'trees may not share rows', TOUCHED,
+     TOUCHED + '\n        %s; rows.sort()\n        if any(b[0] <= a[1] for a, b in zip(rows, rows[1:])):\n            return 25' % ROWS),
+    ('forest check', 'trees must be one under the other in their order', TOUCHED,
+     TOUCHED + '\n        %s\n        if any(b[0] <= a[1] for a, b in zip(rows, rows[1:])):\n            return 25' % ROWS),
+    ('forest check', 'all roots must be in one column', TOUCHED, TOUCHED + '\n        if len({at[r][0] for r in t.roots}) > 1:\n            return 25'),
+    ('forest check', "another root above the head's is 22", SAME, SAME + '\n    if any(at[r][1] < at[t.root][1] for r in t.roots):\n        return 22'),
+    ('forest stroke', "strokes of the head's root's tree alone", LINES,
+     LINES.replace('for b in t.chain', 'for first in [set(%s)] for b in t.chain if b in first' % OF_FIRST)),
+    ('forest stroke', 'strokes tree by tree', LINES, LINES.replace('for b in t.chain',
+     'for tree in [{b: i for i, r in enumerate(t.roots) for b in preorder([r], t.left, t.right)}] for b in sorted(t.chain, key=tree.get)')),
+    ('forest stroke', "strokes of the head's root's tree first", LINES, LINES.replace('for b in t.chain',
+     'for first in [set(%s)] for b in sorted(t.chain, key=lambda b: b not in first)' % OF_FIRST)),
+    ('forest stroke', "a line from the head's root to each other", LINES, LINES + ' + [(t.root, r) for r in t.roots[1:]]'),
+    ('forest stroke', 'a lift to each single node', PAST, 'strokes += [(LIFT, r) for r in t.roots if t.left[r] == t.right[r] == 0]\n    ' + PAST),
+    ('forest stroke', 'as many lines as there are nodes but one', PAST, PAST.replace('len(strokes)', '2 * len(t.chain) - 2 or not strokes'),
+     NTH, NTH.replace('[number]', '[min(number, len(strokes) - 1)]')),
+    *[(kind, *slip) for kind in ('forest hang', 'forest held') for slip in WRITING_TREES + PLACING_TREES],
+    *[('forest hold', *slip) for slip in PLACING_TREES],
+    ('forest cut', "the head's root is cut while others are chained", HEAD_ROOT, 'if False:'),
+    ('forest cut', "the head's root is cut, and another takes its place", HEAD_ROOT, 'if False:', CUT_ROOT, 'new = with_word(new, 0, LEFT, (t.roots + [0])[1])'),
+    ('forest cut', "the head's root is cut while one other node is chained", HEAD_ROOT, HEAD_ROOT.replace('> 1', '> 2')),
+    ('forest cut', "the head's root is cut unless it is first in the chain", HEAD_ROOT, HEAD_ROOT.replace('node == t.root', 'node == t.root == t.chain[0]')),
+    ('forest cut', 'another root is not cut', HEAD_ROOT, HEAD_ROOT.replace('node == t.root', 'node in t.roots')),
+    ('forest cut', "the first of the chain, and not the head's root, is not cut", HEAD_ROOT, HEAD_ROOT.replace('t.root', 't.chain[0]')),
+    ('forest cut', 'the first of the chain is not cut either', HEAD_ROOT, HEAD_ROOT.replace('node == t.root', 'node in (t.root, t.chain[0])')),
+    ('forest cut', "the head's link is cleared with another root", OWN_ROOT, OWN_ROOT.replace('== t.root', 'in t.roots')),
+    ('forest cut', 'nothing is cut off another tree', HEAD_ROOT, 'if node not in %s:\n        return (9, data)\n    ' % OF_FIRST + HEAD_ROOT),
 ]
 
 
@@ -494,6 +668,31 @@ def by_chain(pairs, lines):
     """Pairs of lines by the later of the two in such an order, then by the earlier."""
     place = {line: i for i, line in enumerate(lines)}
     return sorted(pairs, key=lambda pair: sorted((place[line] for line in pair), reverse=True))
+
+
+def paths(b, left, right, length):
+    """Every way of so many links from a node to its child, to that one's child, and so on."""
+    ways = [[b]]
+    for _ in range(length):
+        ways = [way + [c] for way in ways for c in (left[way[-1]], right[way[-1]]) if c]
+    return ways
+
+
+def looped(left, right):
+    """From some node the links lead back to it."""
+    up = {b: 0 for b in left}
+    for b in left:
+        for c in (left[b], right[b]):
+            if c:
+                up[c] += 1
+    ends = [b for b in up if not up[b]]
+    for b in ends:                              # taken away, parents before children, as far as it goes
+        for c in (left[b], right[b]):
+            if c:
+                up[c] -= 1
+                if not up[c]:
+                    ends.append(c)
+    return len(ends) != len(up)
 
 
 def reference(changes):
@@ -511,7 +710,7 @@ def reference(changes):
             return f(*a)
         finally:
             deep[0] -= 1
-    used = {'FILE': [None], 'DEEP': deep, 'deeper': deeper, 'by_chain': by_chain, 'to32': lambda x: (x + 2 ** 31) % 2 ** 32 - 2 ** 31}
+    used = {'FILE': [None], 'DEEP': deep, 'deeper': deeper, 'by_chain': by_chain, 'paths': paths, 'looped': looped, 'to32': lambda x: (x + 2 ** 31) % 2 ** 32 - 2 ** 31}
     module.__dict__.update(used)
     exec(compile(source, 'racksheet', 'exec', optimize=1), module.__dict__)
     assert all(module.__dict__[name] is thing for name, thing in used.items()), 'a name of the program itself'
@@ -581,12 +780,13 @@ def cases():
 
 def main():
     asked, program = list(cases()), reference([])
-    right = [answer(program, *case) for case in asked]
+    right = [(case, answer(program, *case)) for case in asked]
+    several = [(case, a) for case, a in right if case[0] != 'compare' and len(program.read(case[1], UPTO).roots) > 1]
     missed = 0
     for kind, name, *changes in SLIPS:
         wrong = reference(changes)
         for call in CALLS[kind]:
-            told = sum(answer(wrong, *case) != a for case, a in zip(asked, right) if case[0] == call)
+            told = sum(answer(wrong, *case) != a for case, a in (several if kind.startswith('forest') else right) if case[0] == call)
             missed += told == 0
             print('%5d  %-9s  %s' % (told, call, name), flush=True)
     sys.exit(missed != 0)

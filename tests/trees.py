@@ -1,14 +1,19 @@
-"""Ordered binary trees of many shapes, their tables, and sheets of them that the drawer does not make. Nothing here knows how it draws."""
+"""Ordered binary trees of many shapes, forests of them, their tables, and sheets of them that the drawer does not make. Nothing here knows how it draws."""
 
 
 class Tree:
-    """Nodes 1 to n, parents before children; left and right by node, 0 for none."""
+    """Nodes 1 to n, parents before children; left and right by node, 0 for none. Of a forest, too: 1 is the head's root, and each other node without a parent starts
+    another tree."""
 
     def __init__(self, n):
         self.n = n
         self.left = [0] * (n + 1)
         self.right = [0] * (n + 1)
         self.depth = [0] * (n + 1)
+
+    def roots(self):
+        named = {*self.left, *self.right}
+        return [v for v in range(1, self.n + 1) if v not in named]
 
 
 def split(n, choose):
@@ -92,12 +97,46 @@ def hanging(n, rng):
     return tree
 
 
+def forest(*parts):
+    """Several trees as one forest; the root of the first is the head's root."""
+    whole, before = Tree(sum(part.n for part in parts)), 0
+    for part in parts:
+        for v in range(1, part.n + 1):
+            whole.left[before + v], whole.right[before + v] = (c and before + c for c in (part.left[v], part.right[v]))
+            whole.depth[before + v] = part.depth[v]
+        before += part.n
+    return whole
+
+
+def scattered(n, count, rng):
+    """A forest of n nodes in so many trees of every shape, or in n if that is less; its trees are of any sizes."""
+    ends = sorted(rng.sample(range(1, n), min(count, n) - 1)) + [n]
+    return forest(*(rng.choice(shapes(rng))[1](end - begin) for begin, end in zip([0] + ends, ends)))
+
+
+def from_links(links):
+    """The tree or forest of the given (left, right) of 1, 2, .., parents before children."""
+    tree = Tree(len(links))
+    for v, (a, b) in enumerate(links, 1):
+        tree.left[v], tree.right[v] = a, b
+        for c in (a, b):
+            tree.depth[c] = tree.depth[v] + 1 if c else 0
+    return tree
+
+
 def every_links(n, first=1):
     """The links of every tree of n nodes, which are numbered from first on, parent before left subtree before right subtree."""
     if n == 0:
         return [[]]
     return [[(first + 1 if a else 0, first + 1 + a if a + 1 < n else 0)] + x + y
             for a in range(n) for x in every_links(a, first + 1) for y in every_links(n - 1 - a, first + 1 + a)]
+
+
+def every_forest_links(n, first=1):
+    """The links of every forest of n nodes, numbered from first on, tree by tree."""
+    if n == 0:
+        return [[]]
+    return [x + y for a in range(1, n + 1) for x in every_links(a, first) for y in every_forest_links(n - a, first + a)]
 
 
 def shapes(rng):
@@ -144,7 +183,7 @@ def shapes(rng):
 
 
 def table(tree, rng, extra=0, shuffled=True, free=0):
-    """The bytes of a tree's table and the record of each node. Extra records, on neither chain, hold rubbish; so many others are free."""
+    """The bytes of the table of a tree or a forest, and the record of each node. Extra records, on neither chain, hold rubbish; so many others are free."""
     records = tree.n + 1 + extra + free
     names = list(range(1, records))
     if shuffled:
@@ -189,17 +228,18 @@ def stored(points, record, records):
 
 
 def layers(tree):
-    """A good drawing that fits any tree: the column is the place in order from left to right, the row the depth."""
+    """A good drawing that fits any tree: the column is the place in order from left to right, the row the depth; several trees side by side."""
     points = [(0, 0)] * (tree.n + 1)
-    column, todo, v = 0, [], 1 if tree.n else 0
-    while v or todo:
-        while v:
-            todo.append(v)
-            v = tree.left[v]
-        v = todo.pop()
-        points[v] = (column, tree.depth[v])
-        column += 1
-        v = tree.right[v]
+    column, todo = 0, []
+    for v in tree.roots():
+        while v or todo:
+            while v:
+                todo.append(v)
+                v = tree.left[v]
+            v = todo.pop()
+            points[v] = (column, tree.depth[v])
+            column += 1
+            v = tree.right[v]
     return points
 
 
@@ -219,7 +259,8 @@ def level_runs(tree, rng, wrong=0.0):
 
 
 def tangled(tree, rng):
-    """Any of a few columns, and each child level with its parent or a row or two below, no two nodes at one point: lines that cross and touch."""
+    """Any of a few columns, and each child level with its parent or a row or two below, and another root with the top row, no two nodes at one point: lines that
+    cross and touch."""
     columns, parent = rng.randint(3, 3 + tree.n // 2), [0] * (tree.n + 1)
     for v in range(1, tree.n + 1):
         parent[tree.left[v]] = parent[tree.right[v]] = v

@@ -1,13 +1,14 @@
 -- Cutting (hanging's Cutting): every word afterwards, what it leaves (`cut-leaf`), and that cutting the only node leaves the empty tree (`cut-only`). Rests on Accepted and Written
 -- (`table`), Places (`hanging`), Inserted, Graft, Hooked, PruneChain, PruneSound and PruneTree.
-use mathlib.Core.Path.{_≡_, refl, sym, ap}
+use mathlib.Core.Path.{_≡_, sym, ap, ap₂, _∙_}
 use mathlib.Core.Logic.{_≢_, ⊎-elim}
 use mathlib.Core.List.{List, [], _∷_}
 use Prim.Native.Nat.{ℕ, _/_, _≤_, _<_}
 use native.Mathlib.Omega.{arith}
-use lib.ListN.{length}
+use lib.ListN.{length, drop-of-length-le}
 use Rattle.table.specs.Lists.{member}
 use Rattle.table.specs.Table.{records, word, nextOf, leftOf, rightOf, tagOf, rootOf, chain, Chained, firstFree}
+use Rattle.table.specs.Trees.{named}
 use Rattle.table.specs.Writing.{Write, write}
 use Rattle.table.proofs.Accepted.{Empty, chain-within, root}
 use Rattle.table.proofs.Written.{Elsewhere, length-writes, writes-kept, writes-last}
@@ -16,10 +17,10 @@ use Rattle.hanging.proofs.Places.{Cuttable, cuttable}
 use Rattle.calls.specs.Leaf.{CutLeaf}
 use Rattle.calls.proofs.Inserted.{behind-length}
 use Rattle.calls.proofs.Graft.{Graft}
-use Rattle.calls.proofs.Hooked.{before-cases, before-names, before-apart, before-within, hooked, hook-bounds, holder-apart, holder-within}
+use Rattle.calls.proofs.Hooked.{before-cases, before-names, before-apart, before-within, hooked, hook-bounds, holder-within}
 use Rattle.calls.proofs.PruneChain.{Prunable, pruned-chain, pruned-free}
 use Rattle.calls.proofs.PruneSound.{pruned-accepted}
-use Rattle.calls.proofs.PruneTree.{pruned-tree}
+use Rattle.calls.proofs.PruneTree.{pruned-trees}
 
 module _ {t : List ℕ} {k : ℕ} (h : Cuttable t k) where
   -- The writes.
@@ -58,15 +59,6 @@ module _ {t : List ℕ} {k : ℕ} (h : Cuttable t k) where
         (omega arith, λ e. before-apart h (e .0), (omega arith, λ e. omega (arith, e .1), zeroed-elsewhere (namerOf t 0 k) 0 (before-apart h))),
       )
 
-  cut-vacant : word (cutOut t k) (holder t k) (hook t k) ≡ 0
-  unfolding cutOut
-  cut-vacant = writes-last (unchain ∷ []) (holder t k) (hook t k) 0 (onward ∷ freed ∷ zeroed) t (omega (arith, hook-bounds h))
-      (omega (arith, hook-bounds h, holder-within h))
-      (omega arith, λ e. holder-apart h (e .0), (omega arith, head, zeroed-elsewhere (holder t k) (hook t k) (holder-apart h)))
-    where
-      head : (holder t k ≡ 0) × (hook t k ≡ 2) → ⊥
-      head e = ⊎-elim (λ (s : hook t k ≡ 1). omega (arith, e .1)) (λ (s : (hook t k ≡ 2) × (holder t k ≢ 0)). s .1 (e .0)) (hooked h .slot)
-
   cut-others : nextOf (cutOut t k) k ≡ firstFree t
   unfolding cutOut
   cut-others = writes-last (unchain ∷ unhook ∷ []) k 0 (firstFree t) (freed ∷ zeroed) t (omega arith) (omega (arith, inside))
@@ -85,6 +77,18 @@ module _ {t : List ℕ} {k : ℕ} (h : Cuttable t k) where
     writes-last (unchain ∷ unhook ∷ onward ∷ freed ∷ write k 1 0 ∷ write k 2 0 ∷ []) k 3 0 [] t (omega arith) (omega (arith, inside)) tt,
   )
 
+  cut-vacant : word (cutOut t k) (holder t k) (hook t k) ≡ 0
+  unfolding cutOut
+  cut-vacant = ⊎-elim (λ (e : (holder t k ≢ k) × (word t (holder t k) (hook t k) ≡ k)). unhooked (e .0))
+      (λ (e : (holder t k ≡ k) × (hook t k ≡ 1) × (k ≢ rootOf t) × (named t k ≡ 0)). ap₂ (word (cutOut t k)) (e .0) (e .1) ∙ cut-blank .0) (hooked h .names)
+    where
+      head : (holder t k ≡ 0) × (hook t k ≡ 2) → ⊥
+      head e = ⊎-elim (λ (s : hook t k ≡ 1). omega (arith, e .1)) (λ (s : (hook t k ≡ 2) × (holder t k ≢ 0)). s .1 (e .0)) (hooked h .slot)
+
+      unhooked : holder t k ≢ k → word (cutOut t k) (holder t k) (hook t k) ≡ 0
+      unhooked n = writes-last (unchain ∷ []) (holder t k) (hook t k) 0 (onward ∷ freed ∷ zeroed) t (omega (arith, hook-bounds h))
+          (omega (arith, hook-bounds h, holder-within h)) (omega arith, λ e. n (e .0), (omega arith, head, zeroed-elsewhere (holder t k) (hook t k) n))
+
   cut-same : (m i : ℕ) → i < 4 → m ≢ k → ((m ≡ 0) × (i ≡ 2) → ⊥) → ((m ≡ namerOf t 0 k) × (i ≡ 0) → ⊥) → ((m ≡ holder t k) × (i ≡ hook t k) → ⊥) → word t m i ≡ word (cutOut t k) m i
   unfolding cutOut
   cut-same m i b n f c p = sym (writes-kept m i (unchain ∷ unhook ∷ onward ∷ freed ∷ zeroed) t b
@@ -97,7 +101,6 @@ module _ {t : List ℕ} {k : ℕ} (h : Cuttable t k) where
     some = inside .0;
     inside = omega (arith, inside, ap (λ (n : ℕ). n / 8) cut-length);
     apart-c = before-apart h;
-    apart-p = holder-apart h;
     slot = hooked h .slot;
     first = cut-first;
     gap = cut-gap;
@@ -105,18 +108,18 @@ module _ {t : List ℕ} {k : ℕ} (h : Cuttable t k) where
     blank = cut-blank;
     others = sym cut-others;
     follows = before-names h;
-    named = hooked h .names;
+    names = hooked h .names;
     childless = h .childless;
     same = cut-same;
   }
 
   cut-prunable : Prunable t (namerOf t 0 k) (holder t k) k
-  cut-prunable = record { accepted = h .accepted; leaf = h .leaf; before = before-cases h; holder = hooked h .holder }
+  cut-prunable = record { accepted = h .accepted; leaf = h .leaf; before = before-cases h; holder = hooked h .holder; alone = h .alone }
 
   cuttable-leaf : CutLeaf t k
   cuttable-leaf = record {
     accepted = pruned-accepted cut-graft cut-prunable;
-    pruned = pruned-tree cut-graft cut-prunable;
+    pruned = pruned-trees cut-graft cut-prunable;
     tags = λ m a n. sym (cut-same m 3 (omega arith) n (λ e. omega (arith, e .1)) (λ e. omega (arith, e .1)) (λ e. omega (arith, e .1, hook-bounds h)));
     before = namerOf t 0 k;
     behind = pruned-chain cut-graft cut-prunable;
@@ -134,8 +137,4 @@ cut-only t k e one = ⊎-elim (λ (z : Empty (cutOut t k)). z) (λ (m : Chained 
     l = cut-leaf t k e
 
     none-left : chain (cutOut t k) ≡ []
-    none-left = go (chain (cutOut t k)) (omega (arith, behind-length (l .before) k 0 (chain (cutOut t k)) (chain t) (l .behind), ap length one))
-      where
-        go : (ks : List ℕ) → length ks ≡ 0 → ks ≡ []
-        go [] z = refl
-        go (x ∷ ks) z = absurd (omega arith)
+    none-left = drop-of-length-le (chain (cutOut t k)) {i = 0} (omega (arith, behind-length (l .before) k 0 (chain (cutOut t k)) (chain t) (l .behind), ap length one))

@@ -15,7 +15,7 @@ use Rattle.table.proofs.Accepted.{Empty, chain-within, chain-length, free-withi
 use Rattle.table.proofs.Trail.{Path, path-trail, path-same}
 use Rattle.table.proofs.Nexts.{chain-path, head-distinct, free-head}
 use Rattle.calls.specs.Leaf.{Behind}
-use Rattle.calls.proofs.Graft.{Graft, as-many, slot-bounds}
+use Rattle.calls.proofs.Graft.{Graft, as-many, slot-bounds, names-leaf}
 use Rattle.calls.proofs.Inserted.{behind-length, behind-member, path-inserted}
 
 -- The table without the leaf is accepted; the record before it on the chain is the head or chained, and its parent is the head of an empty tree or chained.
@@ -38,6 +38,9 @@ module _ {t u : List ℕ} {c p j f : ℕ} (a : Growth t u c p j f) where
 
   pub off-chain : Chained t f → ⊥
   off-chain = free-zero t ok f (rw (free-split .1) (member-cons f f (free-split .0) .1 (inl refl))) .0
+
+  pub leaf-word : word u p j ≡ f
+  leaf-word = names-leaf g (λ e. ⊎-elim (λ (z : (p ≡ 0) × Empty t). omega (arith, z .0, g .some)) (λ (m : Chained t p). off-chain (rw e at m)) (a .above))
 
   -- Words that are the same: those of chained records but for one next and one link, and those of the other free records.
   pub chained-word : (x i : ℕ) → i < 4 → Chained t x → ((x ≡ c) × (i ≡ 0) → ⊥) → ((x ≡ p) × (i ≡ j) → ⊥) → word u x i ≡ word t x i

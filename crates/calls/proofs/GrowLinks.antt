@@ -6,13 +6,13 @@ use mathlib.Core.List.{List}
 use Prim.Native.Nat.{ℕ, suc, _+_, _<_}
 use native.Mathlib.Omega.{arith}
 use Rattle.table.specs.Table.{Side, left, right, leftOf, rightOf, linkOf, chain, Chained}
-use Rattle.table.specs.Refusal.{named}
+use Rattle.table.specs.Trees.{named}
 use Rattle.table.proofs.Lists.{sum, sum-same, same, same-zero, same-one, Alike, alike, count-sum, member-count, repeats-count, count-links}
 use Rattle.table.proofs.Chain.{number, number-bound, link-word}
 use Rattle.table.proofs.Accepted.{Empty, chain-distinct, links-chained}
 use Rattle.calls.proofs.Inserted.{behind-sum}
 use Rattle.calls.proofs.Graft.{leaf-links}
-use Rattle.calls.proofs.GrowChain.{Growth, off-chain, chained-word, graft-behind}
+use Rattle.calls.proofs.GrowChain.{Growth, off-chain, leaf-word, chained-word, graft-behind}
 
 -- How often one record names x.
 abbrev naming : List ℕ → ℕ → ℕ → ℕ
@@ -29,7 +29,7 @@ module _ {t u : List ℕ} {c p j f : ℕ} (a : Growth t u c p j f) where
   link-kept x s m n = link-word u s x ∙ chained-word a x (suc (number s)) (omega (arith, number-bound s)) m (λ e. omega (arith, e .1)) (λ e. n (e .0, sym (e .1))) ∙ sym (link-word t s x)
 
   pub link-leaf : (s : Side) → j ≡ suc (number s) → (linkOf u s p ≡ f) × (linkOf t s p ≡ 0)
-  link-leaf s e = (link-word u s p ∙ rw (sym e) (a .graft .named), link-word t s p ∙ rw (sym e) (a .graft .vacant))
+  link-leaf s e = (link-word u s p ∙ rw (sym e) (leaf-word a), link-word t s p ∙ rw (sym e) (a .graft .vacant))
 
   pub link-cases : (x : ℕ) (s : Side) → Chained t x → (linkOf u s x ≡ linkOf t s x) ⊎ ((linkOf u s x ≡ f) × (linkOf t s x ≡ 0))
   link-cases x s m = go (alike x p) (alike j (suc (number s)))

@@ -1,19 +1,22 @@
--- A table with a leaf more (`Growth`) is accepted. Rests on Lists, Accepted and Accepting (`table`), Inserted, Graft, GrowChain and GrowLinks.
-use mathlib.Core.Path.{_≡_, refl, sym, ap, _∙_, subst}
-use mathlib.Core.Logic.{_⊎_, inl, inr, ⊎-elim}
-use mathlib.Core.List.{List}
+-- A table with a leaf more (`Growth`) is accepted, and has the same roots, or the leaf alone. Rests on Lists, Causes, Accepted and Accepting (`table`), Inserted, Graft, GrowChain and GrowLinks.
+use mathlib.Core.Path.{_≡_, refl, sym, ap, ap₂, _∙_, subst}
+use mathlib.Core.Logic.{_⊎_, inl, inr, ⊎-elim, ⊎-map}
+use mathlib.Core.Bool.{false}
+use mathlib.Core.List.{List, [], _∷_}
 use Prim.Native.Nat.{ℕ, _+_, _≤_, _<_}
 use native.Mathlib.Omega.{arith}
 use lib.Dec.{eqb, eqb→eq}
-use Rattle.table.specs.Lists.{member, count}
+use Rattle.table.specs.Lists.{member, count, select}
 use Rattle.table.specs.Table.{Side, records, tagOf, leftOf, rightOf, linkOf, rootOf, chain, Chained, free, Free}
-use Rattle.table.specs.Refusal.{badLength, badHead, named, fault}
-use Rattle.table.proofs.Lists.{T-false, passes, member-cons, distinct-cons, same, Alike, alike, member-none, Distinct, repeats-count}
+use Rattle.table.specs.Trees.{named, startsTree, roots}
+use Rattle.table.specs.Refusal.{badLength, badHead, fault}
+use Rattle.table.proofs.Lists.{T-false, passes, member-cons, distinct-cons, same, Alike, alike, select-same, member-none, Distinct, repeats-count}
+use Rattle.table.proofs.Causes.{starts-not, root-first}
 use Rattle.table.proofs.Accepted.{Empty, empty-none, fault-none, chain-within, chain-distinct, free-within, free-distinct, free-zero, links-chained, root, parented, down}
 use Rattle.table.proofs.Accepting.{Sound, Reaching, sound-accepted}
-use Rattle.calls.proofs.Inserted.{behind-count}
+use Rattle.calls.proofs.Inserted.{behind-count, behind-select}
 use Rattle.calls.proofs.Graft.{as-many, slot-bounds, leaf-links}
-use Rattle.calls.proofs.GrowChain.{Growth, off-chain, free-word, graft-behind, graft-chained, graft-free}
+use Rattle.calls.proofs.GrowChain.{Growth, off-chain, leaf-word, free-word, graft-behind, graft-chained, graft-free}
 use Rattle.calls.proofs.GrowLinks.{leaf-side, link-leaf, link-cases, named-kept, leaf-named, leaf-root}
 
 module _ {t u : List ℕ} {c p j f : ℕ} (a : Growth t u c p j f) where
@@ -21,21 +24,25 @@ module _ {t u : List ℕ} {c p j f : ℕ} (a : Growth t u c p j f) where
   ok = a .accepted
 
   -- Chained in u: the leaf, and what is chained in t.
-  leaf-chained : Chained u f
+  pub leaf-chained : Chained u f
   leaf-chained = graft-chained a f .1 (inl refl)
 
-  still-chained : (x : ℕ) → Chained t x → Chained u x
+  pub still-chained : (x : ℕ) → Chained t x → Chained u x
   still-chained x m = graft-chained a x .1 (inr m)
 
-  -- The head: the root is as it was, or the leaf.
+  -- The head: its root is as it was, or the leaf.
   pub root-leaf : p ≡ 0 → rootOf u ≡ f
-  root-leaf e = ⊎-elim (λ (d : j ≡ 1). rw (e, d) at (a .graft .named)) (λ (d : (j ≡ 2) × (p ≡ 0 → ⊥)). absurd (d .1 e)) (a .graft .slot)
+  root-leaf e = ⊎-elim (λ (d : j ≡ 1). rw (e, d) at (leaf-word a)) (λ (d : (j ≡ 2) × (p ≡ 0 → ⊥)). absurd (d .1 e)) (a .graft .slot)
 
   pub root-kept : Chained t p → rootOf u ≡ rootOf t
   root-kept h = a .graft .same 0 1 (omega arith) (λ e. omega (arith, a .graft .some)) (λ e. omega (arith, e .1)) (λ e. omega (arith, e .1)) (λ e. omega (arith, e .0, chain-within t ok p h))
 
-  pub root-chained : Chained t p → Chained t (rootOf t)
-  root-chained h = ⊎-elim (λ (e : Empty t). absurd (empty-none t e p h)) (λ (m : Chained t (rootOf t)). m) (root t ok)
+  pub top-chained : Chained t p → Chained t (rootOf t)
+  top-chained h = ⊎-elim (λ (e : Empty t). absurd (empty-none t e p h)) (λ (m : Chained t (rootOf t)). m) (root t ok)
+
+  -- Where a record is chained in t, so is the parent.
+  parent-chained : (x : ℕ) → Chained t x → Chained t p
+  parent-chained x m = ⊎-elim (λ (z : (p ≡ 0) × Empty t). absurd (empty-none t (z .1) x m)) (λ (h : Chained t p). h) (a .above)
 
   -- The chain and the free records.
   grown-distinct : Distinct (chain u)
@@ -74,27 +81,38 @@ module _ {t u : List ℕ} {c p j f : ℕ} (a : Growth t u c p j f) where
           ⊎-elim (λ (e : linkOf u s k ≡ linkOf t s k). rw e (⊎-elim (λ (z : linkOf t s k ≡ 0). inl z) (λ (n : Chained t (linkOf t s k)). inr (still-chained (linkOf t s k) n)) (links-chained t ok k s h)))
           (λ (e : (linkOf u s k ≡ f) × (linkOf t s k ≡ 0)). inr (rw (e .0) leaf-chained)) (link-cases a k s h)
 
-  -- The root, and what is named.
+  -- The head's root, and what is named.
   grown-root : Chained u (rootOf u)
-  grown-root = ⊎-elim (λ (e : (p ≡ 0) × Empty t). rw (root-leaf (e .0)) leaf-chained) (λ (h : Chained t p). rw (root-kept h) (still-chained (rootOf t) (root-chained h))) (a .above)
+  grown-root = ⊎-elim (λ (e : (p ≡ 0) × Empty t). rw (root-leaf (e .0)) leaf-chained) (λ (h : Chained t p). rw (root-kept h) (still-chained (rootOf t) (top-chained h))) (a .above)
 
   kept : (x : ℕ) → Chained t x → named u x ≡ named t x
   kept x m = named-kept a x (chain-within t ok x m .0) (λ e. off-chain a (rw e at m))
 
   grown-unnamed : named u (rootOf u) ≡ 0
   grown-unnamed =
-      ⊎-elim (λ (e : (p ≡ 0) × Empty t). rw (root-leaf (e .0)) (leaf-root a (e .1))) (λ (h : Chained t p). rw (root-kept h) (kept (rootOf t) (root-chained h) ∙ parented t ok .unnamed)) (a .above)
+      ⊎-elim (λ (e : (p ≡ 0) × Empty t). rw (root-leaf (e .0)) (leaf-root a (e .1))) (λ (h : Chained t p). rw (root-kept h) (kept (rootOf t) (top-chained h) ∙ parented t ok .unnamed)) (a .above)
 
-  grown-once : (k : ℕ) → Chained u k → (k ≡ rootOf u) ⊎ (named u k ≡ 1)
-  grown-once k m = ⊎-elim new old (graft-chained a k .0 m)
+  grown-once : (k : ℕ) → Chained u k → named u k ≤ 1
+  grown-once k m = ⊎-elim new (λ (n : Chained t k). omega (arith, kept k n, parented t ok .once k n)) (graft-chained a k .0 m)
     where
-      new : k ≡ f → (k ≡ rootOf u) ⊎ (named u k ≡ 1)
-      new e = ⊎-elim (λ (z : (p ≡ 0) × Empty t). inl (e ∙ sym (root-leaf (z .0)))) (λ (h : Chained t p). inr (rw e (leaf-named a h))) (a .above)
+      new : k ≡ f → named u k ≤ 1
+      new e = ⊎-elim (λ (z : (p ≡ 0) × Empty t). rw e (omega (arith, leaf-root a (z .1)))) (λ (h : Chained t p). rw e (omega (arith, leaf-named a h))) (a .above)
 
-      old : Chained t k → (k ≡ rootOf u) ⊎ (named u k ≡ 1)
-      old n =
-          ⊎-elim (λ (z : (p ≡ 0) × Empty t). absurd (empty-none t (z .1) k n))
-          (λ (h : Chained t p). ⊎-elim (λ (e : k ≡ rootOf t). inl (e ∙ sym (root-kept h))) (λ (e : named t k ≡ 1). inr (kept k n ∙ e)) (parented t ok .once k n)) (a .above)
+  -- The roots: the leaf starts no other tree, and the other records start one as in t.
+  leaf-starts : startsTree u f ≡ false
+  leaf-starts = starts-not u f (⊎-map (λ (e : (p ≡ 0) × Empty t). sym (root-leaf (e .0))) (λ (h : Chained t p). omega (arith, leaf-named a h)) (a .above))
+
+  others-kept : select (startsTree u) (chain u) ≡ select (startsTree t) (chain t)
+  unfolding startsTree
+  others-kept = behind-select c f 0 (chain t) (chain u) (graft-behind a) (startsTree u) leaf-starts ∙
+      select-same (startsTree u) (startsTree t) (chain t) (λ k m. rw (root-kept (parent-chained k m), kept k m))
+
+  pub roots-leaf : p ≡ 0 → Empty t → roots u ≡ f ∷ []
+  unfolding select
+  roots-leaf e z = ap₂ (λ (k : ℕ) (ks : List ℕ). k ∷ ks) (root-leaf e) (others-kept ∙ ap (select (startsTree t)) (z .0))
+
+  pub roots-kept : Chained t p → roots u ≡ roots t
+  roots-kept h = ap₂ (λ (k : ℕ) (ks : List ℕ). k ∷ ks) (root-kept h) others-kept
 
   grown-tagless : tagOf u 0 ≡ 0
   unfolding badHead
@@ -120,11 +138,10 @@ module _ {t u : List ℕ} {c p j f : ℕ} (a : Growth t u c p j f) where
 
   -- Each record is reached as in t, and the leaf by one step more.
   pub grown-reaching : Reaching u
-  grown-reaching P top step k m =
-      ⊎-elim new (λ (n : Chained t k). ⊎-elim (λ (z : (p ≡ 0) × Empty t). absurd (empty-none t (z .1) k n)) (λ (h : Chained t p). old h k n) (a .above)) (graft-chained a k .0 m)
+  grown-reaching P top step k m = ⊎-elim new (λ (n : Chained t k). old (parent-chained k n) k n) (graft-chained a k .0 m)
     where
       old : Chained t p → (x : ℕ) → Chained t x → P x
-      old h = down t ok P (λ i. subst P (root-kept h) (top grown-root)) below
+      old h = down t ok P (λ r i n. top r (rw (roots-kept h) i) (still-chained r n)) below
         where
           below : (k : ℕ) (s : Side) → Chained t k → Chained t (linkOf t s k) → P k → P (linkOf t s k)
           below k s n i q =
@@ -132,7 +149,7 @@ module _ {t u : List ℕ} {c p j f : ℕ} (a : Growth t u c p j f) where
               (λ (e : (linkOf u s k ≡ f) × (linkOf t s k ≡ 0)). absurd (omega (arith, e .1, chain-within t ok (linkOf t s k) i))) (link-cases a k s n)
 
       new : k ≡ f → P k
-      new e = ⊎-elim (λ (z : (p ≡ 0) × Empty t). subst P (root-leaf (z .0) ∙ sym e) (top grown-root)) under (a .above)
+      new e = ⊎-elim (λ (z : (p ≡ 0) × Empty t). subst P (root-leaf (z .0) ∙ sym e) (top (rootOf u) (root-first u) grown-root)) under (a .above)
         where
           under : Chained t p → P k
           under h =

@@ -1,23 +1,25 @@
--- The tree of a table with a leaf more (`Growth`). Rests on Lists, Chain and Accepted (`table`), Graft, GrowChain, GrowLinks and GrowSound.
-use mathlib.Core.Path.{_≡_, ap, ap₂, _∙_}
+-- The trees of a table with a leaf more (`Growth`). Rests on Lists, Chain, Causes and Accepted (`table`), Graft, GrowChain, GrowLinks and GrowSound.
+use mathlib.Core.Path.{_≡_, sym, ap, ap₂, _∙_}
 use mathlib.Core.Logic.{_⊎_, inl, inr, ⊎-elim}
 use mathlib.Core.Bool.{cond, _&&_}
-use mathlib.Core.List.{List}
+use mathlib.Core.List.{List, [], _∷_, map, map-map}
 use Prim.Native.Nat.{ℕ, zero, suc, _≤_, _<_}
 use native.Mathlib.Omega.{arith}
 use lib.Dec.{eqb}
 use borrow.Author.Tests.{eq-eqb, ne-eqb}
-use Rattle.table.specs.Table.{Side, left, right, records, leftOf, rightOf, linkOf, rootOf, Chained}
-use Rattle.table.specs.Tree.{none, node, size, descend, treeAt, tree}
+use Rattle.table.specs.Table.{Side, left, right, records, leftOf, rightOf, linkOf, Chained}
+use Rattle.table.specs.Tree.{Tree, none, node, size, descend, treeAt}
+use Rattle.table.specs.Trees.{roots, trees}
 use Rattle.table.specs.Refusal.{fault}
 use Rattle.table.proofs.Lists.{Alike, alike}
-use Rattle.table.proofs.Chain.{number, descend-none}
-use Rattle.table.proofs.Accepted.{chain-length, links-chained, tree-none, size-below, tree-unfolds, size-child}
+use Rattle.table.proofs.Chain.{number, descend-none, trees-alike}
+use Rattle.table.proofs.Causes.{roots-chained}
+use Rattle.table.proofs.Accepted.{Empty, chain-length, links-chained, tree-none, size-below, tree-unfolds, size-child}
 use Rattle.calls.specs.Leaf.{withLeaf}
 use Rattle.calls.proofs.Graft.{as-many, leaf-links}
 use Rattle.calls.proofs.GrowChain.{Growth}
 use Rattle.calls.proofs.GrowLinks.{link-kept, link-leaf}
-use Rattle.calls.proofs.GrowSound.{root-leaf, root-kept, root-chained}
+use Rattle.calls.proofs.GrowSound.{top-chained, roots-leaf, roots-kept}
 
 -- A record with no links is a leaf.
 leaf-alone : (t : List ℕ) (m f : ℕ) → 0 < f → 0 < m → leftOf t f ≡ 0 → rightOf t f ≡ 0 → descend m t f ≡ node f none none
@@ -33,9 +35,9 @@ module _ {t u : List ℕ} {c p j f : ℕ} (a : Growth t u c p j f) where
   leaf-tree : (m : ℕ) → 0 < m → descend m u f ≡ node f none none
   leaf-tree m h = leaf-alone u m f (a .graft .some) h (leaf-links (a .graft) left) (leaf-links (a .graft) right)
 
-  -- The leaf is the root.
-  pub tree-leaf : p ≡ 0 → tree u ≡ node f none none
-  tree-leaf e = ap (treeAt u) (root-leaf a e) ∙ leaf-tree (records u) (omega (arith, as-many (a .graft), a .graft .inside))
+  -- The leaf is the root, and the only node.
+  pub trees-leaf : p ≡ 0 → Empty t → trees u ≡ node f none none ∷ []
+  trees-leaf e z = ap (map (treeAt u)) (roots-leaf a e z) ∙ ap (λ (x : Tree). x ∷ []) (leaf-tree (records u) (omega (arith, as-many (a .graft), a .graft .inside)))
 
   -- Under its parent.
   module _ (side : ℕ) (at : j ≡ suc side) where
@@ -64,5 +66,9 @@ module _ {t u : List ℕ} {c p j f : ℕ} (a : Growth t u c p j f) where
         go : Chained t (suc k) → ((x : ℕ) → Grown m x) → descend (suc m) u (suc k) ≡ withLeaf p side f (treeAt t (suc k))
         go i r = rw (tree-unfolds t ok (suc k) i) (ap₂ (node (suc k)) (below m (suc k) left i (omega arith) r) (below m (suc k) right i (omega arith) r))
 
-    pub tree-grown : Chained t p → tree u ≡ withLeaf p side f (tree t)
-    tree-grown h = ap (treeAt u) (root-kept a h) ∙ grown-at (records u) (rootOf t) (inr (root-chained a h)) (omega (arith, as-many (a .graft), chain-length t ok, size-below t ok (rootOf t) (root-chained a h)))
+    tree-grown : (k : ℕ) → Chained t k → treeAt u k ≡ withLeaf p side f (treeAt t k)
+    tree-grown k m = grown-at (records u) k (inr m) (omega (arith, as-many (a .graft), chain-length t ok, size-below t ok k m))
+
+    pub trees-grown : Chained t p → trees u ≡ map (withLeaf p side f) (trees t)
+    trees-grown h = ap (map (treeAt u)) (roots-kept a h) ∙ trees-alike (treeAt u) (λ k. withLeaf p side f (treeAt t k)) (roots t) (λ k m. tree-grown k (roots-chained t (top-chained a h) k m)) ∙
+        sym (map-map (withLeaf p side f) (treeAt t) (roots t))

@@ -2,12 +2,13 @@
 -- an accepted table and of words written (`table`), on Places (`hanging`), Graft, GrowChain, GrowSound and GrowTree.
 use mathlib.Core.Path.{_≡_, refl, sym, _∙_}
 use mathlib.Core.Logic.{inl, inr, ⊎-elim}
-use mathlib.Core.List.{List, [], _∷_}
+use mathlib.Core.List.{List, [], _∷_, map}
 use Prim.Native.Nat.{ℕ, zero, suc, _+_, _*_, _≤_, _<_}
 use native.Mathlib.Omega.{arith}
 use lib.ListN.{length}
 use Rattle.table.specs.Table.{records, word, nextOf, tagOf, Chained, firstFree, Free}
-use Rattle.table.specs.Tree.{Tree, none, node, tree}
+use Rattle.table.specs.Tree.{Tree, none, node}
+use Rattle.table.specs.Trees.{trees}
 use Rattle.table.specs.Refusal.{fault}
 use Rattle.table.specs.Writing.{Write, write}
 use Rattle.table.proofs.Accepted.{Empty, records-bounds, chain-within, first-free, free-zero}
@@ -18,18 +19,18 @@ use Rattle.calls.specs.Leaf.{withLeaf, withChild, HungLeaf}
 use Rattle.calls.proofs.Graft.{Graft}
 use Rattle.calls.proofs.GrowChain.{Growth, chained-word, graft-behind, graft-free}
 use Rattle.calls.proofs.GrowSound.{grown-accepted}
-use Rattle.calls.proofs.GrowTree.{tree-leaf, tree-grown}
+use Rattle.calls.proofs.GrowTree.{trees-leaf, trees-grown}
 
 -- A child of the head, and of a record.
-child-root : (k side f : ℕ) (a : Tree) → k ≡ 0 → withChild k side f a ≡ node f none none
+child-root : (k side f : ℕ) (ts : List Tree) → k ≡ 0 → withChild k side f ts ≡ node f none none ∷ []
 unfolding withChild
-child-root zero side f a e = refl
-child-root (suc k) side f a e = absurd (omega arith)
+child-root zero side f ts e = refl
+child-root (suc k) side f ts e = absurd (omega arith)
 
-child-leaf : (k side f : ℕ) (a : Tree) → 0 < k → withChild k side f a ≡ withLeaf k side f a
+child-leaf : (k side f : ℕ) (ts : List Tree) → 0 < k → withChild k side f ts ≡ map (withLeaf k side f) ts
 unfolding withChild
-child-leaf zero side f a z = absurd (omega arith)
-child-leaf (suc k) side f a z = refl
+child-leaf zero side f ts z = absurd (omega arith)
+child-leaf (suc k) side f ts z = refl
 
 module _ (t : List ℕ) (parent side tag : ℕ) (h : hangRefusal t parent side ≡ 0) where
   abbrev f : ℕ
@@ -128,7 +129,6 @@ module _ (t : List ℕ) (parent side tag : ℕ) (h : hangRefusal t parent side �
     some = accepted-place .2;
     inside = hang-within t parent side h .2;
     apart-c = apart;
-    apart-p = apart;
     slot = at .slotted;
     first = refl;
     gap = sym hung-ahead;
@@ -136,26 +136,26 @@ module _ (t : List ℕ) (parent side tag : ℕ) (h : hangRefusal t parent side �
     blank = let v = free-zero t ok f leaf-free in (v .1, v .2, v .3);
     others = hung-free;
     follows = hung-behind;
-    named = hung-link;
+    names = inl (apart, hung-link);
     childless = let v = free-zero t ok f leaf-free in (hung-childless 1 (omega arith) (omega arith) (v .1), hung-childless 2 (omega arith) (omega arith) (v .2));
     same = λ m i z n a b c. unwritten m i z c (λ e. n (e .0)) a (λ e. n (e .0)) b;
   }
 
   -- What the call leaves.
-  abbrev growth : Growth t u parent parent j f
+  pub growth : Growth t u parent parent j f
   growth = record { graft = hung-graft; accepted = ok; before = ⊎-elim (λ (z : (parent ≡ 0) × Empty t). inl (z .0)) (λ (m : Chained t parent). inr m) (at .above); above = at .above }
 
-  hung-tree : tree u ≡ withChild parent side f (tree t)
-  hung-tree =
-      ⊎-elim (λ (z : (parent ≡ 0) × Empty t). tree-leaf growth (z .0) ∙ sym (child-root parent side f (tree t) (z .0)))
+  hung-trees : trees u ≡ withChild parent side f (trees t)
+  hung-trees =
+      ⊎-elim (λ (z : (parent ≡ 0) × Empty t). trees-leaf growth (z .0) (z .1) ∙ sym (child-root parent side f (trees t) (z .0)))
       (λ (m : Chained t parent).
       let z = chain-within t ok parent m .0 in
-      tree-grown growth side (slot-side parent side z) m ∙ sym (child-leaf parent side f (tree t) z)) (at .above)
+      trees-grown growth side (slot-side parent side z) m ∙ sym (child-leaf parent side f (trees t) z)) (at .above)
 
   pub hang-leaf : HungLeaf t parent side tag
   hang-leaf = record {
     accepted = grown-accepted growth;
-    grown = hung-tree;
+    grown = hung-trees;
     tagged = hung-tag;
     tags = λ k m. chained-word growth k 3 (omega arith) m (λ q. omega (arith, q .1)) (λ q. omega (arith, q .1, slot-small));
     behind = graft-behind growth;

@@ -1,14 +1,15 @@
 -- A list with one number more, right behind another (`Behind`, specs/Leaf), and a path with one record more. Rests on Lists and Trail.
 use mathlib.Core.Path.{_≡_, refl, sym, ap, _∙_}
 use mathlib.Core.Logic.{_↔_, _⊎_, inl, inr, ⊎-elim}
-use mathlib.Core.List.{List, [], _∷_}
+use mathlib.Core.Bool.{Bool, false}
+use mathlib.Core.List.{List, [], _∷_, _++_}
 use Prim.Native.Nat.{ℕ, suc, _+_, _≤_, _<_}
 use native.Mathlib.Omega.{arith}
 use lib.Dec.{T}
-use lib.ListN.{length}
-use Rattle.table.specs.Lists.{member, repeats, count}
+use lib.ListN.{length, drop}
+use Rattle.table.specs.Lists.{member, repeats, count, select}
 use Rattle.table.specs.Table.{nextOf}
-use Rattle.table.proofs.Lists.{T-false, or-false, member-cons, sum, same, same-one, Alike, alike, count-sum, length-sum, sum-append, member-count, Distinct}
+use Rattle.table.proofs.Lists.{T-false, or-false, member-cons, sum, same, same-one, Alike, alike, count-sum, length-sum, sum-append, select-append, member-count, Distinct}
 use Rattle.table.proofs.Trail.{Path, path-same}
 use Rattle.calls.specs.Leaf.{Behind}
 
@@ -33,6 +34,20 @@ module _ (k f h : ℕ) (ks fs : List ℕ) (b : Behind k f (h ∷ ks) (h ∷ fs))
 
       new : x ≡ f → T (member x fs)
       new e = member-count x fs .1 (omega (arith, behind-count x, same-one x f e))
+
+  -- What passes a test that the number fails.
+  pub behind-select : (g : ℕ → Bool) → g f ≡ false → select g fs ≡ select g ks
+  unfolding select
+  behind-select g e = go (b .before) (ap (drop 1) (b .without)) (ap (drop 1) (b .inserted))
+    where
+      skip : select g (f ∷ b .after) ≡ select g (b .after)
+      skip = rw (e, select)
+
+      go : (before : List ℕ) → ks ≡ drop 1 (before ++ (k ∷ b .after)) → fs ≡ drop 1 (before ++ (k ∷ f ∷ b .after)) → select g fs ≡ select g ks
+      go [] p q = rw (p, q) skip
+      go (x ∷ xs) p q =
+          let over : select g (k ∷ f ∷ b .after) ≡ select g (k ∷ b .after) = select-append g (k ∷ []) (f ∷ b .after) ∙ ap (λ (l : List ℕ). select g (k ∷ []) ++ l) skip ∙ sym (select-append g (k ∷ []) (b .after)) in
+          ap (select g) q ∙ select-append g xs (k ∷ f ∷ b .after) ∙ ap (λ (l : List ℕ). select g xs ++ l) over ∙ sym (ap (select g) p ∙ select-append g xs (k ∷ b .after))
 
 -- A path gets one record more, f, right behind c: the nexts are the same but for those of c and f.
 module _ (t u : List ℕ) (c f : ℕ) (some : 0 < f) (follows : nextOf u c ≡ f) (gap : nextOf t c ≡ nextOf u f) where

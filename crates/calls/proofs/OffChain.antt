@@ -17,7 +17,7 @@ use Rattle.table.specs.Writing.{Write, written}
 use Rattle.table.proofs.Lists.{member-cons}
 use Rattle.table.proofs.Written.{OfWords, length-writes, written-same}
 use Rattle.table.proofs.Accepted.{Empty, records-bounds, chain-within, free-within, first-free}
-use Rattle.table.proofs.OffChain.{chain-same, first-same}
+use Rattle.table.proofs.OffChain.{chain-same, first-same, starts-same}
 use Rattle.hanging.specs.Hanging.{slot, hangRefusal, hung, afterHang}
 use Rattle.hanging.specs.Holding.{afterHeld}
 use Rattle.hanging.specs.Cutting.{first, namerOf, holder, hook, cutRefusal, cutOut, afterCut}
@@ -96,7 +96,7 @@ module _ {t u : List ℕ} (h : OffChain t u) where
 
   holder-same : (k : ℕ) → holder u k ≡ holder t k
   unfolding holder
-  holder-same k = rw (namer-same 2 k (omega arith), namer-same 1 k (omega arith))
+  holder-same k = rw (starts-same h k, namer-same 2 k (omega arith), namer-same 1 k (omega arith))
 
   hook-same : (k : ℕ) → hook u k ≡ hook t k
   unfolding hook

@@ -3,9 +3,10 @@
 use mathlib.Core.Path.{_≡_, refl, sym, ap, _∙_, subst}
 use mathlib.Core.Logic.{_≢_, _⊎_, inr, ⊎-elim}
 use mathlib.Core.List.{List, [], _∷_}
-use Prim.Native.Nat.{ℕ}
+use Prim.Native.Nat.{ℕ, _≤_}
 use native.Mathlib.Omega.{arith}
 use lib.Dec.{T}
+use lib.ListN.{length}
 use Rattle.table.specs.Lists.{member}
 use Rattle.table.specs.Table.{nextOf, rootOf, trail, chain, Chained, firstFree, free, Free}
 use Rattle.table.specs.Refusal.{fault}
@@ -52,12 +53,13 @@ module _ {t u : List ℕ} {c p j f : ℕ} (g : Graft t u c p j f) where
             record { before = x ∷ r .2 .before; after = r .2 .after; without = ap (λ (l : List ℕ). x ∷ l) (r .2 .without); inserted = ap (λ (l : List ℕ). x ∷ l) (r .2 .inserted) },
           )
 
--- The leaf is chained in u; the record before it is chained or the head; its parent is chained, or it is the root.
+-- The leaf is chained in u; the record before it is chained or the head; its parent is chained, or it is the head's root; it is that only if it is the only node.
 pub record Prunable (u : List ℕ) (c p f : ℕ) : Type 0 where
   pub accepted : fault u ≡ 0
   pub leaf : Chained u f
   pub before : (c ≡ 0) ⊎ Chained u c
   pub holder : ((p ≡ 0) × (rootOf u ≡ f)) ⊎ Chained u p
+  pub alone : f ≡ rootOf u → length (chain u) ≤ 1
 
 module _ {t u : List ℕ} {c p j f : ℕ} (g : Graft t u c p j f) (h : Prunable u c p f) where
   -- The chain.

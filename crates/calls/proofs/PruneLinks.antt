@@ -1,17 +1,20 @@
 -- A leaf taken off (Graft): the chained records of the table t without it and their links, beside those of the table u with it. A link that names the leaf is zero in t; the others are
--- the same, and name a record as often. Rests on Lists and Accepted (`table`), Inserted, Graft and PruneChain.
+-- the same, and name a record as often. Rests on Lists, Chain, Causes and Accepted (`table`), Inserted, Graft and PruneChain.
 use mathlib.Core.Path.{_≡_, refl, sym, ap, _∙_}
 use mathlib.Core.Logic.{_≢_, _⊎_, inl, inr, ⊎-elim, ⊎-map}
 use mathlib.Core.List.{List, []}
 use Prim.Native.Nat.{ℕ, _+_, _<_}
 use native.Mathlib.Omega.{arith}
+use lib.ListN.{drop-of-length-le}
 use Rattle.table.specs.Lists.{count}
-use Rattle.table.specs.Table.{Side, left, right, leftOf, rightOf, linkOf, rootOf, chain, Chained}
-use Rattle.table.specs.Refusal.{named}
-use Rattle.table.proofs.Lists.{no-members, same, same-one, same-zero, Alike, alike, sum, sum-same, member-count, repeats-count, count-links}
-use Rattle.table.proofs.Accepted.{Empty, empty-none, chain-within, chain-distinct, root, down, parent-unique, root-unnamed}
-use Rattle.calls.proofs.Inserted.{behind-sum, behind-count, behind-member}
-use Rattle.calls.proofs.Graft.{Graft, leaf-links}
+use Rattle.table.specs.Table.{Side, left, right, word, leftOf, rightOf, linkOf, rootOf, chain, Chained}
+use Rattle.table.specs.Trees.{named}
+use Rattle.table.proofs.Lists.{same, same-one, same-zero, Alike, alike, sum, sum-same, member-count, repeats-count, count-links}
+use Rattle.table.proofs.Chain.{names}
+use Rattle.table.proofs.Causes.{root-first}
+use Rattle.table.proofs.Accepted.{Empty, empty-none, chain-within, chain-distinct, root, parent-unique, root-unnamed}
+use Rattle.calls.proofs.Inserted.{behind-sum, behind-count, behind-length, behind-member}
+use Rattle.calls.proofs.Graft.{Graft, names-leaf, leaf-links}
 use Rattle.calls.proofs.PruneChain.{Prunable, pruned-chain}
 
 module _ {t u : List ℕ} {c p j f : ℕ} (g : Graft t u c p j f) (h : Prunable u c p f) where
@@ -38,22 +41,24 @@ module _ {t u : List ℕ} {c p j f : ℕ} (g : Graft t u c p j f) (h : Prunable 
   abbrev pub Paired : ℕ → ℕ → Type 0
   Paired k m = ((k ≡ f) × (m ≡ 0)) ⊎ ((m ≡ k) × (k ≢ f))
 
-  holds : Chained u p → (s : Side) × (linkOf u s p ≡ f) × (linkOf t s p ≡ 0)
-  holds m = ⊎-elim (λ (e : j ≡ 1). (left, rw e at (g .named), rw e at (g .vacant))) (λ (e : (j ≡ 2) × (p ≢ 0)). (right, rw (e .0) at (g .named), rw (e .0) at (g .vacant))) (g .slot)
+  holds : word u p j ≡ f → (s : Side) × (linkOf u s p ≡ f) × (linkOf t s p ≡ 0)
+  holds n = ⊎-elim (λ (e : j ≡ 1). (left, rw e at n, rw e at (g .vacant))) (λ (e : (j ≡ 2) × (p ≢ 0)). (right, rw (e .0) at n, rw (e .0) at (g .vacant))) (g .slot)
 
   link-same : (k : ℕ) (s : Side) → k ≢ f → 0 < k → linkOf u s k ≢ f → linkOf t s k ≡ linkOf u s k
-  link-same k left a z n = sym (g .same k 1 (omega arith) a (λ e. omega (arith, e .1)) (λ e. omega (arith, e .1)) (λ e. n (rw (e .0, e .1) (g .named))))
-  link-same k right a z n = sym (g .same k 2 (omega arith) a (λ e. omega (arith, e .0)) (λ e. omega (arith, e .1)) (λ e. n (rw (e .0, e .1) (g .named))))
+  link-same k left a z n = sym (g .same k 1 (omega arith) a (λ e. omega (arith, e .1)) (λ e. omega (arith, e .1)) (λ e. n (rw (e .0, e .1) (names-leaf g (λ q. a (e .0 ∙ q))))))
+  link-same k right a z n = sym (g .same k 2 (omega arith) a (λ e. omega (arith, e .0)) (λ e. omega (arith, e .1)) (λ e. n (rw (e .0, e .1) (names-leaf g (λ q. a (e .0 ∙ q))))))
 
   pub link-paired : (k : ℕ) (s : Side) → Chained t k → Paired (linkOf u s k) (linkOf t s k)
   link-paired k s m = go (alike (linkOf u s k) f)
     where
       held : linkOf u s k ≡ f → linkOf t s k ≡ 0
-      held e = ⊎-elim (λ (r : (p ≡ 0) × (rootOf u ≡ f)). absurd (root-unnamed u (h .accepted) k s (still k m) (e ∙ sym (r .1)))) here (h .holder)
+      held e = ⊎-elim (λ (w : (p ≢ f) × (word u p j ≡ f)). by (w .1) (h .holder))
+          (λ (w : (p ≡ f) × (j ≡ 1) × (f ≢ rootOf u) × (named u f ≡ 0)). absurd (omega (arith, names u f k s (chain u) (still k m) (sym e), w .3))) (g .names)
         where
-          here : Chained u p → linkOf t s k ≡ 0
-          here n =
-              let i = holds n in
+          by : word u p j ≡ f → ((p ≡ 0) × (rootOf u ≡ f)) ⊎ Chained u p → linkOf t s k ≡ 0
+          by w (inl r) = absurd (root-unnamed u (h .accepted) (rootOf u) (root-first u) k s (still k m) (e ∙ sym (r .1)))
+          by w (inr n) =
+              let i = holds w in
               let q = parent-unique u (h .accepted) k p s (i .0) (still k m) n (omega (arith, e, g .some)) (e ∙ sym (i .1)) in
               rw (q .0, q .1) (i .2)
 
@@ -68,25 +73,24 @@ module _ {t u : List ℕ} {c p j f : ℕ} (g : Graft t u c p j f) (h : Prunable 
       gone z = ⊎-elim (λ (e : j ≡ 1). rw (z, e) at (g .vacant)) (λ (e : (j ≡ 2) × (p ≢ 0)). absurd (e .1 z)) (g .slot)
 
       here : Chained u p → Paired (rootOf u) (rootOf t)
-      here n =
-          let i = holds n in
-          inr (
-            sym (g .same 0 1 (omega arith) (λ e. omega (arith, g .some)) (λ e. omega (arith, e .1)) (λ e. omega (arith, e .1)) (λ e. omega (arith, e .0, chain-within u (h .accepted) p n))),
-            λ e. root-unnamed u (h .accepted) p (i .0) n (i .1 ∙ sym e),
-          )
+      here n = inr (
+        sym (g .same 0 1 (omega arith) (λ e. omega (arith, g .some)) (λ e. omega (arith, e .1)) (λ e. omega (arith, e .1)) (λ e. omega (arith, e .0, chain-within u (h .accepted) p n))),
+        λ e. ⊎-elim (λ (w : (p ≢ f) × (word u p j ≡ f)). let i = holds (w .1) in root-unnamed u (h .accepted) (rootOf u) (root-first u) p (i .0) n (i .1 ∙ sym e))
+            (λ (w : (p ≡ f) × (j ≡ 1) × (f ≢ rootOf u) × (named u f ≡ 0)). w .2 (sym e)) (g .names),
+      )
 
-  -- A leaf that is the root is alone.
+  -- The leaf is no parent; where it is the head's root, no other record is chained.
   pub childless : (k : ℕ) (s : Side) → k ≡ f → Chained u (linkOf u s k) → ⊥
   childless k s e m = omega (arith, ap (linkOf u s) e, leaf-links g s, chain-within u (h .accepted) (linkOf u s k) m)
 
   root-alone : rootOf u ≡ f → chain t ≡ []
-  root-alone e = no-members (chain t) (λ k m. off k m (down u (h .accepted) (λ n. n ≡ f) (λ r. e) (λ n s a b q. absurd (childless n s q b)) k (still k m)))
+  root-alone e = drop-of-length-le (chain t) {i = 0} (omega (arith, h .alone (sym e), behind-length c f 0 (chain t) (chain u) (pruned-chain g h)))
 
-  pub root-cases : Empty t ⊎ ((rootOf t ≡ rootOf u) × Chained t (rootOf t))
-  root-cases = ⊎-map (λ (e : (rootOf u ≡ f) × (rootOf t ≡ 0)). (root-alone (e .0), e .1)) (λ (e : (rootOf t ≡ rootOf u) × (rootOf u ≢ f)). (e .0, rw (e .0) (other (rootOf u) top (e .1)))) root-paired
-    where
-      top : Chained u (rootOf u)
-      top = ⊎-elim (λ (e : Empty u). absurd (empty-none u e f (h .leaf))) (λ (m : Chained u (rootOf u)). m) (root u (h .accepted))
+  pub top : Chained u (rootOf u)
+  top = ⊎-elim (λ (e : Empty u). absurd (empty-none u e f (h .leaf))) (λ (m : Chained u (rootOf u)). m) (root u (h .accepted))
+
+  pub top-cases : Empty t ⊎ ((rootOf t ≡ rootOf u) × Chained t (rootOf t))
+  top-cases = ⊎-map (λ (e : (rootOf u ≡ f) × (rootOf t ≡ 0)). (root-alone (e .0), e .1)) (λ (e : (rootOf t ≡ rootOf u) × (rootOf u ≢ f)). (e .0, rw (e .0) (other (rootOf u) top (e .1)))) root-paired
 
   -- Other records are named as often.
   paired-same : (x k m : ℕ) → 0 < x → x ≢ f → Paired k m → same x k ≡ same x m

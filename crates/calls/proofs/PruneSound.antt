@@ -1,20 +1,22 @@
--- A leaf taken off (Graft): the table without it is accepted. Rests on Lists, Accepted and Accepting (`table`), Graft, PruneChain and PruneLinks.
+-- A leaf taken off (Graft): the table without it is accepted. Rests on Lists, Causes, Accepted and Accepting (`table`), Graft, PruneChain and PruneLinks.
 use mathlib.Core.Path.{_≡_, refl, sym, ap, _∙_}
 use mathlib.Core.Logic.{_≢_, _⊎_, inl, inr, ⊎-elim, ⊎-map}
 use mathlib.Core.Bool.{false}
 use mathlib.Core.List.{List}
-use Prim.Native.Nat.{ℕ, _<_}
+use Prim.Native.Nat.{ℕ, _≤_, _<_}
 use native.Mathlib.Omega.{arith}
 use lib.Dec.{eqb, eqb→eq}
 use Rattle.table.specs.Lists.{member, repeats, count}
 use Rattle.table.specs.Table.{Side, word, leftOf, rightOf, tagOf, linkOf, rootOf, chain, Chained, free, Free}
-use Rattle.table.specs.Refusal.{badLength, badHead, links, named, fault}
+use Rattle.table.specs.Trees.{links, named}
+use Rattle.table.specs.Refusal.{badLength, badHead, fault}
 use Rattle.table.proofs.Lists.{T-false, passes, or-false, member-cons, Distinct, repeats-count}
+use Rattle.table.proofs.Causes.{root-cases}
 use Rattle.table.proofs.Accepted.{Empty, empty-none, fault-none, chain-within, chain-distinct, free-within, free-distinct, free-zero, links-chained, parented, down}
 use Rattle.table.proofs.Accepting.{Sound, Reaching, sound-accepted}
 use Rattle.calls.proofs.Graft.{Graft, as-many, slot-bounds}
 use Rattle.calls.proofs.PruneChain.{Prunable, pruned-free}
-use Rattle.calls.proofs.PruneLinks.{chain-count, still, leaf-off, other, off, link-paired, childless, root-cases, named-same}
+use Rattle.calls.proofs.PruneLinks.{chain-count, still, leaf-off, other, off, link-paired, childless, top-cases, named-same}
 
 module _ {t u : List ℕ} {c p j f : ℕ} (g : Graft t u c p j f) (h : Prunable u c p f) where
   -- The free records: the leaf, and those of u.
@@ -55,19 +57,15 @@ module _ {t u : List ℕ} {c p j f : ℕ} (g : Graft t u c p j f) (h : Prunable 
       kept e = ⊎-map (λ (z : linkOf u s k ≡ 0). e .0 ∙ z) (λ (n : Chained u (linkOf u s k)). rw (e .0) (other g h (linkOf u s k) n (e .1))) (links-chained u (h .accepted) k s (still g h k m))
 
   root-unnamed-still : named t (rootOf t) ≡ 0
-  root-unnamed-still = ⊎-elim (λ (e : Empty t). unfold links count in rw (e .0) refl) some (root-cases g h)
+  root-unnamed-still = ⊎-elim (λ (e : Empty t). unfold links count in rw (e .0) refl) some (top-cases g h)
     where
       some : (rootOf t ≡ rootOf u) × Chained t (rootOf t) → named t (rootOf t) ≡ 0
       some e =
           let r = named-same g h (rootOf t) (omega (arith, chain-within u (h .accepted) (rootOf t) (still g h (rootOf t) (e .1)))) (off g h (rootOf t) (e .1)) in
           r ∙ ap (named u) (e .0) ∙ parented u (h .accepted) .unnamed
 
-  named-once : (k : ℕ) → Chained t k → (k ≡ rootOf t) ⊎ (named t k ≡ 1)
-  named-once k m = ⊎-elim (λ (e : Empty t). absurd (empty-none t e k m)) some (root-cases g h)
-    where
-      some : (rootOf t ≡ rootOf u) × Chained t (rootOf t) → (k ≡ rootOf t) ⊎ (named t k ≡ 1)
-      some e = ⊎-map (λ (d : k ≡ rootOf u). d ∙ sym (e .0)) (λ (d : named u k ≡ 1). named-same g h k (omega (arith, chain-within u (h .accepted) k (still g h k m))) (off g h k m) ∙ d)
-          (parented u (h .accepted) .once k (still g h k m))
+  named-once : (k : ℕ) → Chained t k → named t k ≤ 1
+  named-once k m = omega (arith, named-same g h k (chain-within u (h .accepted) k (still g h k m) .0) (off g h k m), parented u (h .accepted) .once k (still g h k m))
 
   -- t is accepted.
   free-once : Distinct (free t)
@@ -85,16 +83,17 @@ module _ {t u : List ℕ} {c p j f : ℕ} (g : Graft t u c p j f) (h : Prunable 
     free-within = λ k m. ⊎-elim (λ (e : k ≡ f). omega (arith, g .inside)) (λ (n : Free u k). omega (arith, free-within u (h .accepted) k n, as-many g)) (free-cases k m);
     vacant = λ k m. vacancy k (free-cases k m);
     links = links-kept;
-    root = ⊎-map (λ (e : Empty t). e) (λ (e : (rootOf t ≡ rootOf u) × Chained t (rootOf t)). e .1) (root-cases g h);
+    root = ⊎-map (λ (e : Empty t). e) (λ (e : (rootOf t ≡ rootOf u) × Chained t (rootOf t)). e .1) (top-cases g h);
     unnamed = root-unnamed-still;
     once = named-once;
   }
 
   pub pruned-reaching : Reaching t
-  pruned-reaching P r f' k m = down u (h .accepted) (λ n. Chained t n → P n) (λ a b. start b) step k (still g h k m) m
+  pruned-reaching P r f' k m = down u (h .accepted) (λ n. Chained t n → P n) (λ n i a b. r n (root-cases t n .1 (still-root n b (root-cases u n .0 i))) b) step k (still g h k m) m
     where
-      start : Chained t (rootOf u) → P (rootOf u)
-      start b = ⊎-elim (λ (e : Empty t). absurd (empty-none t e (rootOf u) b)) (λ (e : (rootOf t ≡ rootOf u) × Chained t (rootOf t)). rw (e .0) at (r (e .1))) (root-cases g h)
+      still-root : (n : ℕ) → Chained t n → (n ≡ rootOf u) ⊎ (Chained u n × (named u n ≡ 0)) → (n ≡ rootOf t) ⊎ (Chained t n × (named t n ≡ 0))
+      still-root n b (inl e) = ⊎-elim (λ (z : Empty t). absurd (empty-none t z n b)) (λ (d : (rootOf t ≡ rootOf u) × Chained t (rootOf t)). inl (e ∙ sym (d .0))) (top-cases g h)
+      still-root n b (inr e) = inr (b, named-same g h n (chain-within u (h .accepted) n (e .0) .0) (off g h n b) ∙ e .1)
 
       step : (n : ℕ) (s : Side) → Chained u n → Chained u (linkOf u s n) → (Chained t n → P n) → Chained t (linkOf u s n) → P (linkOf u s n)
       step n s a b q d =

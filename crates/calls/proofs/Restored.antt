@@ -1,54 +1,40 @@
--- "Cutting a box just hung restores every byte": `restored`. Rests on Lists and Bytes (`table`), Inserted, Graft, PruneChain, Hanging and Undone.
-use mathlib.Core.Path.{_≡_, refl, sym, ap₂, _∙_}
-use mathlib.Core.Logic.{_≢_, _⊎_, inl, inr, ⊎-elim, ⊎-map}
-use mathlib.Core.List.{List, _∷_}
+-- "Cutting a box just hung restores every byte": `restored`. Rests on Accepted and Bytes (`table`), Inserted, GrowChain, GrowSound, PruneChain, Hanging and Undone.
+use mathlib.Core.Path.{_≡_, ap, _∙_}
+use mathlib.Core.Logic.{⊎-elim, ⊎-map}
+use mathlib.Core.List.{List}
 use Prim.Native.Nat.{ℕ, _<_}
-use lib.Dec.{T}
-use Rattle.table.specs.Lists.{member}
-use Rattle.table.specs.Table.{word, rootOf, chain, Chained, firstFree}
-use Rattle.table.proofs.Lists.{or-T, member-cons, member-append}
+use native.Mathlib.Omega.{arith}
+use lib.ListN.{length}
+use Rattle.table.specs.Table.{chain, Chained, firstFree}
 use Rattle.table.specs.Writing.{Bytes}
+use Rattle.table.proofs.Accepted.{Empty}
 use Rattle.table.proofs.Bytes.{word-small, bytes-all}
-use Rattle.hanging.specs.Hanging.{slot, hangRefusal, hung}
+use Rattle.hanging.specs.Hanging.{hangRefusal, hung}
 use Rattle.hanging.specs.Cutting.{cutRefusal, afterCut}
-use Rattle.calls.specs.Leaf.{Behind, HungLeaf}
-use Rattle.calls.proofs.Inserted.{behind-member}
-use Rattle.calls.proofs.Graft.{Graft}
-use Rattle.calls.proofs.Hanging.{hung-graft, hang-leaf}
+use Rattle.calls.proofs.Inserted.{behind-length}
+use Rattle.calls.proofs.GrowChain.{Growth, off-chain, graft-behind}
+use Rattle.calls.proofs.GrowSound.{leaf-chained, still-chained, root-leaf, root-kept, top-chained, grown-accepted}
 use Rattle.calls.proofs.PruneChain.{Prunable}
+use Rattle.calls.proofs.Hanging.{hung-graft, growth}
 use Rattle.calls.proofs.Undone.{cut-allowed, after-undoes}
 
--- The number behind which another stands.
-behind-base : (k f : ℕ) (ks fs : List ℕ) → Behind k f ks fs → T (member k fs)
-behind-base k f ks fs b = rw (b .inserted, member-append) (or-T (member k (b .before)) (member k (k ∷ f ∷ b .after)) .1 (inr (member-cons k k (f ∷ b .after) .1 (inl refl))))
+-- The leaf more can be taken off again.
+grown-prunable : {t u : List ℕ} {c p j f : ℕ} → Growth t u c p j f → Prunable u c p f
+grown-prunable {t} {u} {c} {p} {j} {f} a = record {
+  accepted = grown-accepted a;
+  leaf = leaf-chained a;
+  before = ⊎-map (λ (z : c ≡ 0). z) (still-chained a c) (a .before);
+  holder = ⊎-map (λ (z : (p ≡ 0) × Empty t). (z .0, root-leaf a (z .0))) (still-chained a p) (a .above);
+  alone = λ e. ⊎-elim (λ (z : (p ≡ 0) × Empty t). omega (arith, behind-length c f 0 (chain t) (chain u) (graft-behind a), ap length (z .1 .0)))
+      (λ (h : Chained t p). absurd (off-chain a (rw (e ∙ root-kept a h) (top-chained a h)))) (a .above);
+}
 
-module _ {t : List ℕ} {parent side tag : ℕ} (g : Graft t (hung t parent side tag) parent parent (slot parent side) (firstFree t)) (h : HungLeaf t parent side tag) where
-  hung-prunable : Prunable (hung t parent side tag) parent parent (firstFree t)
-  hung-prunable = record {
-    accepted = h .accepted;
-    leaf = behind-member parent (firstFree t) 0 (chain t) (chain (hung t parent side tag)) (h .behind) (firstFree t) .1 (inl refl);
-    before = before;
-    holder = ⊎-map (λ (z : parent ≡ 0). (z, top z)) (λ (m : Chained (hung t parent side tag) parent). m) before;
-  }
-    where
-      before : (parent ≡ 0) ⊎ Chained (hung t parent side tag) parent
-      before = member-cons parent 0 (chain (hung t parent side tag)) .0 (behind-base parent (firstFree t) (0 ∷ chain t) (0 ∷ chain (hung t parent side tag)) (h .behind))
-
-      top : parent ≡ 0 → rootOf (hung t parent side tag) ≡ firstFree t
-      top z = ⊎-elim (λ (e : slot parent side ≡ 1). ap₂ (word (hung t parent side tag)) (sym z) (sym e) ∙ g .named) (λ (e : (slot parent side ≡ 2) × (parent ≢ 0)). absurd (e .1 z)) (g .slot)
-
-  hung-bytes : Bytes t → tag < 65536 → Bytes (hung t parent side tag)
-  unfolding hung
-  hung-bytes b s = bytes-all _ t b (word-small t 0 2 b, (s, (word-small t (firstFree t) 0 b, (word-small t parent 0 b, (word-small t 0 2 b, tt)))))
-
-  cut-again : cutRefusal (hung t parent side tag) (firstFree t) ≡ 0
-  cut-again = cut-allowed g hung-prunable
-
-  hung-restored : Bytes t → tag < 65536 → afterCut (hung t parent side tag) (firstFree t) ≡ t
-  hung-restored b s = after-undoes g hung-prunable b (hung-bytes b s)
+hung-bytes : (t : List ℕ) (parent side tag : ℕ) → Bytes t → tag < 65536 → Bytes (hung t parent side tag)
+unfolding hung
+hung-bytes t parent side tag b s = bytes-all _ t b (word-small t 0 2 b, (s, (word-small t (firstFree t) 0 b, (word-small t parent 0 b, (word-small t 0 2 b, tt)))))
 
 pub cut-answers : (t : List ℕ) (parent side tag : ℕ) → hangRefusal t parent side ≡ 0 → cutRefusal (hung t parent side tag) (firstFree t) ≡ 0
-cut-answers t parent side tag h = cut-again (hung-graft t parent side tag h) (hang-leaf t parent side tag h)
+cut-answers t parent side tag h = cut-allowed (hung-graft t parent side tag h) (grown-prunable (growth t parent side tag h))
 
 pub restored : (t : List ℕ) (parent side tag : ℕ) → Bytes t → tag < 65536 → hangRefusal t parent side ≡ 0 → afterCut (hung t parent side tag) (firstFree t) ≡ t
-restored t parent side tag b s h = hung-restored (hung-graft t parent side tag h) (hang-leaf t parent side tag h) b s
+restored t parent side tag b s h = after-undoes (hung-graft t parent side tag h) (grown-prunable (growth t parent side tag h)) b (hung-bytes t parent side tag b s)

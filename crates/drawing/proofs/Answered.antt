@@ -1,5 +1,4 @@
--- The drawer's answer on acceptance and on refusal: `accepted`, `refused`, `drawn-refusal`; tables that were accepted before Paper 5 of document 02 get the plan that
--- they had: `drawn-before`.
+-- The drawer's answer on acceptance and on refusal: `accepted`, `refused`, `drawn-refusal`.
 use mathlib.Core.Path.{_≡_, sym, ap, _∙_}
 use mathlib.Core.Logic.{_≢_}
 use mathlib.Core.List.{List}
@@ -7,23 +6,19 @@ use Prim.Native.Nat.{ℕ}
 use native.Mathlib.Decide.{ℕ-discrete}
 use lib.ListN.{length}
 use borrow.Author.Tests.{eq-eqb, ne-eqb}
-use Rattle.table.specs.Tree.{tree}
+use Rattle.table.specs.Trees.{trees}
 use Rattle.table.specs.Refusal.{refusal}
-use Rattle.table.proofs.Before.{refusalBefore, accepted-before}
-use Rattle.layout.specs.Drawing.{draw}
+use Rattle.layout.specs.Trees.{drawTrees}
 use Rattle.drawing.specs.declared.Drawn.{Drawn}
-use Rattle.drawing.specs.Answer.{store, emptyPlan, planOf, drawnOf, placedIn}
+use Rattle.drawing.specs.Answer.{storeAll, emptyPlan, planOf, drawnOf, placedIn}
 
 pub record Accepted (t p : List ℕ) : Type 0 where
   pub drawn : drawnOf t p ≡ record { refusal = 0; plan = planOf t }
-  pub after : placedIn t p ≡ store (draw (tree t)) p
+  pub after : placedIn t p ≡ storeAll (drawTrees (trees t)) p
 
 pub accepted : (t p : List ℕ) → refusal t (length p) ≡ 0 → Accepted t p
 unfolding drawnOf placedIn
 accepted t p e = record { drawn = rw (drawnOf, eq-eqb (refusal t (length p)) 0 e); after = rw (placedIn, eq-eqb (refusal t (length p)) 0 e) }
-
-pub drawn-before : (t p : List ℕ) → refusalBefore t (length p) ≡ 0 → Accepted t p
-drawn-before t p e = accepted t p (accepted-before t (length p) e)
 
 pub record Refused (t p : List ℕ) : Type 0 where
   pub drawn : drawnOf t p ≡ record { refusal = refusal t (length p); plan = emptyPlan }

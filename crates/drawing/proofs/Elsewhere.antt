@@ -1,45 +1,46 @@
 -- "The drawer writes only the entries of chained boxes. Entries of the head, of unchained records and beyond are kept", refused or not: `kept-head`,
--- `kept-elsewhere`, `kept-beyond`. Rests on Answered, StoredPoints, the theorem on layouts and the laws of an accepted table.
+-- `kept-elsewhere`, `kept-beyond`. Rests on Answered, StoredTrees and the laws of an accepted table.
 use mathlib.Core.Path.{_≡_, ap, _∙_}
+use mathlib.Core.Logic.{_≢_}
 use mathlib.Core.List.{List}
-use Prim.Native.Nat.{ℕ, _*_, _/_, _≤_, _<_}
+use Prim.Native.Nat.{ℕ, _+_, _*_, _/_, _≤_, _<_}
 use native.Mathlib.Decide.{ℕ-discrete}
 use native.Mathlib.Omega.{arith}
 use lib.ListN.{length, getD}
 use Rattle.table.specs.Table.{records, Chained}
-use Rattle.table.specs.Tree.{nodes, tree}
+use Rattle.table.specs.Trees.{trees, nodesOf}
 use Rattle.table.specs.Refusal.{fault, refusal}
 use Rattle.table.proofs.Lists.{member-count}
 use Rattle.table.proofs.Accepted.{refusal-none, chain-within, nodes-chain}
-use Rattle.layout.specs.Layout.{Layout}
-use Rattle.layout.specs.Drawing.{draw}
-use Rattle.layout.proofs.Theorem.{promise}
-use Rattle.drawing.specs.Answer.{store, placedIn}
+use Rattle.layout.specs.Trees.{drawTrees}
+use Rattle.drawing.specs.Answer.{placedIn}
 use Rattle.drawing.proofs.Answered.{accepted, refused}
-use Rattle.drawing.proofs.StoredPoints.{times, store-length, store-kept}
+use Rattle.drawing.proofs.StoredTrees.{timesIn, times-trees, stored-length, stored-kept}
 
 -- No entry is added or lost.
 pub as-many : (t p : List ℕ) → length (placedIn t p) ≡ length p
 as-many t p = go (ℕ-discrete (refusal t (length p)) 0)
   where
     go : Dec (refusal t (length p) ≡ 0) → length (placedIn t p) ≡ length p
-    go (yes e) = ap length (accepted t p e .after) ∙ store-length (draw (tree t)) p
+    go (yes e) = ap length (accepted t p e .after) ∙ stored-length (drawTrees (trees t)) p
     go (no e) = ap length (refused t p e .after)
 
--- A layout of chained records is stored in their entries alone. Entry i is one of record i / 2.
-pub stored-elsewhere : (t p : List ℕ) (L : Layout) (i : ℕ) → ((k : ℕ) → 1 ≤ times k L → Chained t k) → (Chained t (i / 2) → ⊥) → getD (store L p) i 0 ≡ getD p i 0
-stored-elsewhere t p L i chained off = store-kept L p i (λ k h. let other : i / 2 ≡ k → ⊥ = λ d. off (rw d (chained k h)) in (λ d. other (omega arith), λ d. other (omega arith)))
+-- Entry i is one of record i / 2; the records that are drawn are chained.
+pub elsewhere : (t : List ℕ) (i k : ℕ) → (Chained t (i / 2) → ⊥) → Chained t k → (i ≢ 2 * k) × (i ≢ 2 * k + 1)
+elsewhere t i k off c = let other : i / 2 ≡ k → ⊥ = λ d. off (rw d c) in (λ d. other (omega arith), λ d. other (omega arith))
+
+pub drawn-chained : (t : List ℕ) → fault t ≡ 0 → (k : ℕ) → 1 ≤ timesIn k (drawTrees (trees t)) → Chained t k
+drawn-chained t ok k h = nodes-chain t ok k .0 (member-count k (nodesOf (trees t)) .1 (omega (arith, times-trees k 0 (trees t))))
 
 module _ (t p : List ℕ) (i : ℕ) where
   -- It is kept unless the table is accepted and that record is chained.
   kept : (fault t ≡ 0 → Chained t (i / 2) → ⊥) → getD (placedIn t p) i 0 ≡ getD p i 0
   kept off = go (ℕ-discrete (refusal t (length p)) 0)
     where
-      chained : fault t ≡ 0 → (k : ℕ) → 1 ≤ times k (draw (tree t)) → Chained t k
-      chained ok k h = nodes-chain t ok k .0 (member-count k (nodes (tree t)) .1 (rw (promise (tree t) .same) at h))
-
       go : Dec (refusal t (length p) ≡ 0) → getD (placedIn t p) i 0 ≡ getD p i 0
-      go (yes e) = let ok = refusal-none t (length p) .0 e .0 in rw (accepted t p e .after) (stored-elsewhere t p (draw (tree t)) i (chained ok) (off ok))
+      go (yes e) =
+          let ok = refusal-none t (length p) .0 e .0 in
+          rw (accepted t p e .after) (stored-kept (drawTrees (trees t)) p i (λ k h. elsewhere t i k (off ok) (drawn-chained t ok k h)))
       go (no e) = rw (refused t p e .after)
 
   pub kept-elsewhere : (Chained t (i / 2) → ⊥) → getD (placedIn t p) i 0 ≡ getD p i 0

@@ -1,13 +1,16 @@
--- Laws of the drawer's answer, and of placing. The answer: Answered, OffChain, Elsewhere, Whole. Storing: StoredPoints, StoredOrder. Along a spine: Shapes, Columns, Onward, Walking,
--- Starting.
+-- Laws of the drawer's answer, and of placing. The answer: Answered, OffChain, Before, Elsewhere, Whole. Storing: StoredPoints, StoredOrder, StoredTrees. Along a spine: Shapes, Columns, Onward, Walking,
+-- Starting. From tree to tree: Stacking.
 pub mod Answered
 pub mod OffChain
+pub mod Before
 pub mod StoredPoints
-pub mod Elsewhere
 pub mod StoredOrder
+pub mod StoredTrees
+pub mod Elsewhere
 pub mod Shapes
 pub mod Columns
 pub mod Onward
 pub mod Walking
 pub mod Starting
 pub mod Whole
+pub mod Stacking

@@ -1,14 +1,14 @@
--- The drawer's whole answer for any bytes and placements: refusal, plan, and every placement afterwards (document 01, "The rack table", "How the contracts bind").
+-- The drawer's whole answer for any bytes and placements: refusal, plan, and every placement afterwards (document 01, "The rack table", "How the contracts bind"; document 02, Paper 8).
 use mathlib.Core.Bool.{true, false}
-use mathlib.Core.List.{List}
+use mathlib.Core.List.{List, [], _∷_}
 use Prim.Native.Nat.{ℕ, _+_, _*_}
 use lib.Dec.{eqb}
 use lib.ListN.{length, set}
 use Rattle.table.specs.Table.{chain}
-use Rattle.table.specs.Tree.{tree}
+use Rattle.table.specs.Trees.{trees}
 use Rattle.table.specs.Refusal.{refusal}
-use Rattle.layout.specs.Layout.{Layout, blank, placed, width, height}
-use Rattle.layout.specs.Drawing.{draw}
+use Rattle.layout.specs.Layout.{Layout, blank, placed}
+use Rattle.layout.specs.Trees.{drawTrees, widthOf, heightOf}
 use Rattle.drawing.specs.declared.Plan.{Plan}
 use Rattle.drawing.specs.declared.Drawn.{Drawn}
 
@@ -17,13 +17,18 @@ unfoldable pub store : Layout → List ℕ → List ℕ
 store blank p = p
 store (placed k P a b) p = store b (store a (set (set p (2 * k) (P .column)) (2 * k + 1) (P .row)))
 
+-- Several drawings, one after the other.
+unfoldable pub storeAll : List Layout → List ℕ → List ℕ
+storeAll [] p = p
+storeAll (L ∷ Ls) p = storeAll Ls (store L p)
+
 -- "the empty plan (0 boxes, width 0, height 0)"
 abbrev pub emptyPlan : Plan
 emptyPlan = record { nodes = 0; width = 0; height = 0 }
 
--- The plan of a table: the records on the chain, and the extents of the drawing.
+-- The plan of a table: the records on the chain, and the extents of the drawings of its trees.
 unfoldable pub planOf : List ℕ → Plan
-planOf t = record { nodes = length (chain t); width = width (draw (tree t)); height = height (draw (tree t)) }
+planOf t = record { nodes = length (chain t); width = widthOf (drawTrees (trees t)); height = heightOf (drawTrees (trees t)) }
 
 -- The refusal and the plan: the empty plan on a refusal.
 unfoldable pub drawnOf : List ℕ → List ℕ → Drawn
@@ -31,4 +36,4 @@ drawnOf t p = elim (eqb (refusal t (length p)) 0) [ true ↦ record { refusal = 
 
 -- Every placement afterwards: all kept on a refusal.
 unfoldable pub placedIn : List ℕ → List ℕ → List ℕ
-placedIn t p = elim (eqb (refusal t (length p)) 0) [ true ↦ store (draw (tree t)) p | false ↦ p ]
+placedIn t p = elim (eqb (refusal t (length p)) 0) [ true ↦ storeAll (drawTrees (trees t)) p | false ↦ p ]

@@ -284,7 +284,7 @@ fn draw_hung(
     }
 }
 
-// 004, Step 5; 01, step 1: the drawing of the whole tree, on the left side, from column 0 and row 0 on, by the roles of its spines. Answers its height.
+// 004, Step 5; 01, step 1: the drawing of a whole tree, on the left side, from column 0 on and the given row on, by the roles of its spines. Answers the first row below it.
 pub fn draw_tree(
     table: &[u8],
     sizes: &[u16],
@@ -292,11 +292,12 @@ pub fn draw_tree(
     widest: &[u16],
     points: &mut [u16],
     root: usize,
+    top: usize,
 ) -> usize
     requires { ⌜ Handed (now roles) left (treeAt (now table) root) ⌝ }
     requires { ⌜ Given (now table) (now sizes) (now roles) (now widest) (now points) ⌝ }
-    requires { ⌜ Hanging (now table) (now roles) (now widest) left root 0 0 0 ⌝ }
-    ensures { λ r. ⌜ Hung (now (table .entry)) left root 0 0 (now (points .entry)) r (now (points .exit)) ⌝ }
+    requires { ⌜ Hanging (now table) (now roles) (now widest) left root 0 0 top ⌝ }
+    ensures { λ r. ⌜ Hung (now (table .entry)) left root 0 top (now (points .entry)) r (now (points .exit)) ⌝ }
 {
     let w = Walk {
         at: 0,
@@ -308,5 +309,5 @@ pub fn draw_tree(
         widest: 0,
         mirrored: false,
     };
-    draw_hung(table, sizes, roles, widest, points, w, root, 0, 0)
+    draw_hung(table, sizes, roles, widest, points, w, root, 0, top)
 }

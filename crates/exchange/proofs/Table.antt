@@ -1,21 +1,22 @@
 -- The laws of the exchanged table: as long, with the same head, chain and tags; left and right of each chained node exchanged; refused as the table is;
--- its tree is the mirror image. Rests on Each and on the laws of tables (`table`): a word written, the causes of refusal, what an accepted table is like.
-use mathlib.Core.Path.{_≡_, refl, ap, ap₂, _∙_}
+-- its trees are the mirror images. Rests on Each and on the laws of tables (`table`): a word written, the causes of refusal, what an accepted table is like.
+use mathlib.Core.Path.{_≡_, refl, sym, ap, ap₂, _∙_}
 use mathlib.Core.Logic.{_⊎_, inl, inr}
 use mathlib.Core.Bool.{Bool, true, false, cond, _||_, or-comm}
-use mathlib.Core.List.{List, [], _∷_}
+use mathlib.Core.List.{List, [], _∷_, map, map-map}
 use Prim.Native.Nat.{ℕ, zero, suc, _<_}
 use native.Mathlib.Omega.{arith}
 use lib.Dec.{T}
 use lib.ListN.{length}
 use Rattle.table.specs.Lists.{member, count}
 use Rattle.table.specs.Table.{Side, left, right, records, word, linkOf, nextOf, leftOf, rightOf, tagOf, rootOf, chain, Chained, firstFree, free}
-use Rattle.table.specs.Tree.{node, descend, treeAt, tree}
-use Rattle.table.specs.Refusal.{badLength, badHead, beyond, broken, badChain, occupied, badFree, stray, badLinks, isEmpty, links, badTree, shortPlacements, fault, refusal}
+use Rattle.table.specs.Tree.{Tree, node, nodes, descend, treeAt}
+use Rattle.table.specs.Trees.{links, named, roots, trees, nodesOf}
+use Rattle.table.specs.Refusal.{badLength, badHead, beyond, broken, badChain, occupied, badFree, stray, badLinks, badTree, shortPlacements, fault, refusal}
 use Rattle.table.specs.Writing.{withWord}
-use Rattle.table.proofs.Lists.{T-true, T-false, member-cons, any-same}
-use Rattle.table.proofs.Chain.{follow-same}
-use Rattle.table.proofs.Causes.{cond-same, chain-positive, sound-distinct, sound-within, sound-links}
+use Rattle.table.proofs.Lists.{T-false, member-cons, member-append, any-same}
+use Rattle.table.proofs.Chain.{follow-same, trees-alike}
+use Rattle.table.proofs.Causes.{cond-same, chain-positive, sound-distinct, sound-within, sound-links, at-roots, roots-alike, rooted-alike}
 use Rattle.table.proofs.Accepted.{fault-none, parented}
 use Rattle.table.proofs.Written.{length-written, word-written, word-kept}
 use Rattle.layout.specs.Layout.{mirror}
@@ -52,6 +53,13 @@ named-same t u x [] e = refl
 named-same t u x (n ∷ ns) e =
     let m = member-cons n n ns .1 (inl refl) in
     rw (e n left m, e n right m) (omega (arith, named-same t u x ns (λ k s m. e k s (member-cons k n ns .1 (inr m)))))
+
+-- The records of mirror images are those of the trees.
+pub member-mirrored : (k : ℕ) (ts : List Tree) → member k (nodesOf (map mirror ts)) ≡ member k (nodesOf ts)
+unfolding nodesOf
+member-mirrored k [] = refl
+member-mirrored k (a ∷ ts) =
+    member-append k (nodes (mirror a)) (nodesOf (map mirror ts)) ∙ ap₂ _||_ (member-mirror k a) (member-mirrored k ts) ∙ sym (member-append k (nodes a) (nodesOf ts))
 
 module _ (t : List ℕ) where
   pub exchanged-length : length (exchanged t) ≡ length t
@@ -135,18 +143,21 @@ module _ (t : List ℕ) where
       rw (exchanged-chain, exchanged-length)
       (any-same _ _ (chain t) (λ k m. rw (exchanged-link ok k left m, exchanged-link ok k right m) (or-comm (stray t (rightOf t k)) (stray t (leftOf t k)))))
 
-  tree-bad : badChain t ≡ false → badLinks t ≡ false → badTree (exchanged t) ≡ badTree t
-  unfolding badTree isEmpty
-  tree-bad ok e = go (member (rootOf t) (chain t)) refl
-    where
-      named : (x : ℕ) → count x (links (exchanged t) (chain t)) ≡ count x (links t (chain t))
-      named x = named-same t (exchanged t) x (chain t) (exchanged-link ok)
+  -- The roots, and without 4 the trees, mirrored, if the head's root is chained or there is none.
+  names : badChain t ≡ false → (k : ℕ) → named (exchanged t) k ≡ named t k
+  names ok k = rw exchanged-chain (named-same t (exchanged t) k (chain t) (exchanged-link ok))
 
-      go : (b : Bool) → member (rootOf t) (chain t) ≡ b → badTree (exchanged t) ≡ badTree t
-      go true m =
-          let r = at-mirror ok e (rootOf t) (inr (T-true (member (rootOf t) (chain t)) .1 m)) in
-          simp (exchanged-chain, exchanged-next, root-same, named, r, member-mirror)
-      go false m = rw (exchanged-chain, exchanged-next 0, root-same, m)
+  roots-same : badChain t ≡ false → roots (exchanged t) ≡ roots t
+  roots-same ok = roots-alike t (exchanged t) root-same exchanged-chain (names ok)
+
+  trees-mirror : badChain t ≡ false → badLinks t ≡ false → (rootOf t ≡ 0) ⊎ Chained t (rootOf t) → trees (exchanged t) ≡ map mirror (trees t)
+  trees-mirror ok e c =
+      ap (map (treeAt (exchanged t))) (roots-same ok) ∙ trees-alike (treeAt (exchanged t)) (λ k. mirror (treeAt t k)) (roots t) (at-roots t (λ k. treeAt (exchanged t) k ≡ mirror (treeAt t k)) (at-mirror ok e (rootOf t) c) (λ k h. at-mirror ok e k (inr h))) ∙ sym (map-map mirror (treeAt t) (roots t))
+
+  tree-bad : badChain t ≡ false → badLinks t ≡ false → badTree (exchanged t) ≡ badTree t
+  tree-bad ok e =
+      rooted-alike t (exchanged t) root-same exchanged-chain (names ok) (exchanged-next 0)
+      (λ c k. ap (λ (ts : List Tree). member k (nodesOf ts)) (trees-mirror ok e (inr c)) ∙ member-mirrored k (trees t))
 
   pub exchanged-fault : fault (exchanged t) ≡ fault t
   unfolding fault badLength badHead
@@ -168,5 +179,8 @@ module _ (t : List ℕ) where
   pub exchanged-tree-at : fault t ≡ 0 → (k : ℕ) → (k ≡ 0) ⊎ Chained t k → treeAt (exchanged t) k ≡ mirror (treeAt t k)
   exchanged-tree-at ok = at-mirror (fault-none t ok .sound) (fault-none t ok .linked)
 
-  pub exchanged-tree : fault t ≡ 0 → tree (exchanged t) ≡ mirror (tree t)
-  exchanged-tree ok = rw root-same (exchanged-tree-at ok (rootOf t) (parented t ok .root))
+  pub exchanged-roots : fault t ≡ 0 → roots (exchanged t) ≡ roots t
+  exchanged-roots ok = roots-same (fault-none t ok .sound)
+
+  pub exchanged-trees : fault t ≡ 0 → trees (exchanged t) ≡ map mirror (trees t)
+  exchanged-trees ok = trees-mirror (fault-none t ok .sound) (fault-none t ok .linked) (parented t ok .root)

@@ -5,15 +5,14 @@ use Prim.Native.Nat.{ℕ, _*_, _≤_}
 use native.Mathlib.Omega.{arith}
 use lib.ListN.{length}
 use Rattle.table.specs.Table.{records, chain}
-use Rattle.table.specs.Tree.{tree}
+use Rattle.table.specs.Trees.{trees}
 use Rattle.table.specs.Refusal.{fault, refusal}
 use Rattle.table.proofs.Accepted.{refusal-none, chain-distinct}
 use Rattle.table.proofs.Saying.{answered-number}
-use Rattle.layout.specs.Layout.{width, height}
-use Rattle.layout.specs.Drawing.{draw}
+use Rattle.layout.specs.Trees.{drawTrees, widthOf, heightOf}
 use Rattle.drawing.specs.declared.Drawn.{Drawn}
-use Rattle.drawing.specs.Answer.{store, planOf, placedIn}
-use Rattle.drawing.proofs.StoredPoints.{store-length}
+use Rattle.drawing.specs.Answer.{storeAll, planOf, placedIn}
+use Rattle.drawing.proofs.StoredTrees.{stored-length}
 use Rattle.drawing.proofs.Answered.{Accepted, accepted}
 use Rattle.exchange.specs.Exchanged.{exchanged, exchangedPlacements}
 use Rattle.exchange.proofs.Table.{exchanged-chain, exchanged-refusal}
@@ -47,7 +46,7 @@ wide-kept t p e = record {
     long : 2 * records t ≤ length p
     long = refusal-none t (length p) .0 none .1
 
-    extents : (width (draw (tree u)) ≡ height (drawWide (tree t))) × (height (draw (tree u)) ≡ width (drawWide (tree t)))
+    extents : (widthOf (drawTrees (trees u)) ≡ heightOf (drawWide (trees t))) × (heightOf (drawTrees (trees u)) ≡ widthOf (drawWide (trees t)))
     extents = wide-extents t ok
 
     a : Accepted u p
@@ -56,18 +55,18 @@ wide-kept t p e = record {
     k : Kept u p
     k = kept u p (ap (λ (d : Drawn). d .refusal) (a .drawn))
 
-    narrow-mirrored : width (draw (tree u)) ≤ allowedWidth (length (chain t))
+    narrow-mirrored : widthOf (drawTrees (trees u)) ≤ allowedWidth (length (chain t))
     narrow-mirrored = rw (sym (exchanged-chain t)) (subst (λ (d : Drawn). d .plan .width ≤ allowedWidth (length (chain u))) (a .drawn) (k .narrow))
 
-    short-mirrored : height (draw (tree u)) ≤ length (chain t)
+    short-mirrored : heightOf (drawTrees (trees u)) ≤ length (chain t)
     short-mirrored = rw (sym (exchanged-chain t)) (subst (λ (d : Drawn). d .plan .height ≤ length (chain u)) (a .drawn) (k .short))
 
     -- The wide placements, exchanged, are the plain ones of the exchanged table.
     q : List ℕ
-    q = store (draw (tree u)) p
+    q = storeAll (drawTrees (trees u)) p
 
     twice : exchangedPlacements t (exchangedPlacements t q) ≡ q
-    twice = points-twice (chain t) q (chain-distinct t ok) (listed-room t (chain t) (length p) (length q) ok long (store-length (draw (tree u)) p) refl)
+    twice = points-twice (chain t) q (chain-distinct t ok) (listed-room t (chain t) (length p) (length q) ok long (stored-length (drawTrees (trees u)) p) refl)
 
     back : exchangedPlacements t (widePlacedIn t p) ≡ placedIn u p
     back = ap (exchangedPlacements t) (wide-placed t p none ∙ sym (wide-turned t ok p long)) ∙ (twice ∙ sym (a .after))

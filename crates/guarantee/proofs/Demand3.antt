@@ -1,25 +1,26 @@
--- Demand 3 over the definitions: `kept`, for all bytes and placements. Rests on the theorem on layouts and on the laws of an accepted table.
+-- Demand 3 over the definitions: `kept`, for all bytes and placements. Rests on the laws of trees drawn one under the other and on those of an accepted table.
 use mathlib.Core.Path.{_≡_, refl, sym, ap, subst, _∙_}
 use mathlib.Core.Logic.{inl, inr}
-use mathlib.Core.List.{List}
+use mathlib.Core.List.{List, [], _∷_}
 use Prim.Native.Nat.{ℕ, zero, suc, _+_, _*_, _≤_, _<_}
 use native.Mathlib.Omega.{arith}
-use lib.Dec.{T}
 use lib.ListN.{length}
 use Rattle.segment.proofs.CrossProduct.{cross-negative}
-use Rattle.table.specs.Lists.{count}
 use Rattle.table.specs.Table.{records, chain}
-use Rattle.table.specs.Tree.{Tree, none, node, size, nodes, tree}
+use Rattle.table.specs.Tree.{Tree, none, size}
+use Rattle.table.specs.Trees.{trees, nodesOf}
 use Rattle.table.specs.Refusal.{fault, refusal}
-use Rattle.table.proofs.Accepted.{refusal-none, records-bounds, chain-within, chain-length, nodes-chain, nodes-distinct, size-chain}
-use Rattle.table.proofs.Lists.{repeats-count, member-count}
-use Rattle.layout.specs.Layout.{Layout, width}
+use Rattle.table.proofs.Accepted.{refusal-none, records-bounds, chain-within, chain-length, nodes-distinct, nodes-length}
+use Rattle.table.proofs.Lists.{repeats-count}
+use Rattle.layout.specs.Layout.{width, shift}
 use Rattle.layout.specs.Drawing.{drawing, draw}
-use Rattle.layout.proofs.Theorem.{promise}
-use Rattle.layout.proofs.Records.{Agrees, Checked, drawn-checked}
-use Rattle.drawing.specs.Answer.{store, planOf, drawnOf}
+use Rattle.layout.specs.Trees.{drawFrom, drawTrees, widthOf}
+use Rattle.layout.proofs.Stacked.{AgreesAll, CheckedAll, trees-checked, trees-narrow, trees-short}
+use Rattle.drawing.specs.Answer.{storeAll, planOf, drawnOf}
 use Rattle.drawing.specs.declared.Drawn.{Drawn}
-use Rattle.drawing.proofs.StoredPoints.{times, store-length, store-point}
+use Rattle.drawing.proofs.Elsewhere.{drawn-chained}
+use Rattle.drawing.proofs.StoredTrees.{timesIn, times-trees, stored-length, stored-points}
+use Rattle.drawing.proofs.Whole.{no-trees}
 use Rattle.drawing.proofs.Answered.{Accepted, accepted, drawn-refusal}
 use Rattle.verdict.specs.Points.{pointOf}
 use Rattle.verdict.specs.Conditions.{SamePoint, ChildAbove, Clashing, OutOfOrder}
@@ -30,9 +31,9 @@ use Rattle.width.proofs.FloorLog2.{floor-bounds, allowed-some}
 use Rattle.guarantee.specs.Demand.{Kept}
 use Rattle.guarantee.proofs.TreeNodes.{chained-node, line-child}
 
--- ---- from the conditions over the tree to the conditions over the table
+-- ---- from the conditions over the trees to the conditions over the table
 
-module _ (t p : List ℕ) (ok : fault t ≡ 0) (z : Checked (tree t) (pointOf p)) where
+module _ (t p : List ℕ) (ok : fault t ≡ 0) (z : CheckedAll (trees t) (pointOf p)) where
   not-same : SamePoint t p → ⊥
   not-same h = z .distinct (h .k) (h .m) (chained-node t ok (h .k) (h .chained-k)) (chained-node t ok (h .m) (h .chained-m)) (h .two) (h .same)
 
@@ -51,36 +52,29 @@ module _ (t p : List ℕ) (ok : fault t ≡ 0) (z : Checked (tree t) (pointOf p)
   good : FirstOf (conditions t p) 0
   good = inr (not-same, inr (none-above, inr (λ h. no-clash (cross→clash h), inr (no-clash, inr (in-order, refl)))))
 
--- ---- the drawing's points are read back
+-- ---- the points of the drawings are read back
 
-agrees : (t p : List ℕ) → fault t ≡ 0 → 2 * records t ≤ length p → Agrees (pointOf (store (draw (tree t)) p)) (draw (tree t))
-agrees t p ok long = store-point L p once room
+agrees : (t p : List ℕ) → fault t ≡ 0 → 2 * records t ≤ length p → AgreesAll (pointOf (storeAll (drawTrees (trees t)) p)) (drawTrees (trees t))
+agrees t p ok long = stored-points (drawTrees (trees t)) p once room
   where
-    L : Layout
-    L = draw (tree t)
+    once : (k : ℕ) → timesIn k (drawTrees (trees t)) ≤ 1
+    once k = omega (arith, times-trees k 0 (trees t), repeats-count (nodesOf (trees t)) .0 (nodes-distinct t ok) k)
 
-    same-records : (k : ℕ) → times k L ≡ count k (nodes (tree t))
-    same-records k = ap (λ (T : Tree). count k (nodes T)) (promise (tree t) .same)
+    room : (k : ℕ) → 1 ≤ timesIn k (drawTrees (trees t)) → 2 * k + 1 < length p
+    room k h = omega (arith, long, chain-within t ok k (drawn-chained t ok k h) .1)
 
-    once : (k : ℕ) → times k L ≤ 1
-    once k = omega (arith, same-records k, repeats-count (nodes (tree t)) .0 (nodes-distinct t ok) k)
+-- ---- width
 
-    room : (k : ℕ) → 1 ≤ times k L → 2 * k + 1 < length p
-    room k h = omega (arith, long, chain-within t ok k (nodes-chain t ok k .0 (member-count k (nodes (tree t)) .1 (omega (arith, h, same-records k)))) .1)
+no-width : widthOf (drawTrees (none ∷ [])) ≡ 0
+unfolding drawFrom widthOf shift draw drawing size width
+no-width = refl
 
--- ---- width and height
-
-no-width : (T : Tree) → size T ≡ 0 → width (draw T) ≤ 0
-unfolding draw drawing size width
-no-width none e = omega arith
-no-width (node k a b) e = absurd (omega arith)
-
-narrow : (t : List ℕ) → fault t ≡ 0 → width (draw (tree t)) ≤ allowedWidth (length (chain t))
-narrow t ok = go (length (chain t)) (size-chain t ok) (omega (arith, chain-length t ok, records-bounds t ok .1))
+narrow : (t : List ℕ) → fault t ≡ 0 → widthOf (drawTrees (trees t)) ≤ allowedWidth (length (chain t))
+narrow t ok = go (length (chain t)) refl (omega (arith, chain-length t ok, records-bounds t ok .1))
   where
-    go : (n : ℕ) → size (tree t) ≡ n → n ≤ 4096 → width (draw (tree t)) ≤ allowedWidth n
-    go zero e most = omega (arith, no-width (tree t) e)
-    go (suc m) e most = rw (allowed-some (suc m) (omega arith) most) (promise (tree t) .narrow (floorLog2 (suc m)) (omega (arith, floor-bounds (suc m) (omega arith) .high)))
+    go : (n : ℕ) → length (chain t) ≡ n → n ≤ 4096 → widthOf (drawTrees (trees t)) ≤ allowedWidth n
+    go zero e most = omega (arith, no-width, ap (λ (ts : List Tree). widthOf (drawTrees ts)) (no-trees t ok e))
+    go (suc m) e most = rw (allowed-some (suc m) (omega arith) most) (trees-narrow (trees t) 0 (floorLog2 (suc m)) (omega (arith, e, nodes-length t ok, floor-bounds (suc m) (omega arith) .high)))
 
 -- ---- demand 3
 
@@ -89,7 +83,7 @@ unfolding planOf
 kept t p e = record {
   good = subst (λ (q : List ℕ). Verdict t q 0) (sym (a .after)) stored-good;
   narrow = subst (λ (d : Drawn). d .plan .width ≤ allowedWidth (length (chain t))) (sym (a .drawn)) (narrow t ok);
-  short = subst (λ (d : Drawn). d .plan .height ≤ length (chain t)) (sym (a .drawn)) (omega (arith, promise (tree t) .short, size-chain t ok));
+  short = subst (λ (d : Drawn). d .plan .height ≤ length (chain t)) (sym (a .drawn)) (omega (arith, trees-short (trees t) 0, nodes-length t ok));
 }
   where
     none-refused : refusal t (length p) ≡ 0
@@ -104,6 +98,9 @@ kept t p e = record {
     long : 2 * records t ≤ length p
     long = refusal-none t (length p) .0 none-refused .1
 
-    -- the check of the placements with the drawing stored
-    stored-good : Verdict t (store (draw (tree t)) p) 0
-    stored-good = inr (rw (store-length (draw (tree t)) p) none-refused, good t (store (draw (tree t)) p) ok (drawn-checked (tree t) (pointOf (store (draw (tree t)) p)) (agrees t p ok long)))
+    q : List ℕ
+    q = storeAll (drawTrees (trees t)) p
+
+    -- the check of the placements with the drawings stored
+    stored-good : Verdict t q 0
+    stored-good = inr (rw (stored-length (drawTrees (trees t)) p) none-refused, good t q ok (trees-checked (trees t) 0 (pointOf q) (agrees t p ok long)))

@@ -11,7 +11,7 @@ use Rattle.width.specs.Allowed.{allowedWidth}
 use Rattle.guarantee.specs.declared.Checked.{Checked}
 
 -- An accepted drawing keeps: the check says good of the placements as the drawer left them ("to say good is to answer 0"), the width is at most the allowed width of n,
--- and the height at most n ("Its n is the number of records on the chain").
+-- and the height at most n ("Its n is the number of records on the chain"; document 02, Paper 8: "Width and height limits hold with n counting all boxes").
 pub record Kept (t p : List ℕ) : Type 0 where
   pub good : Verdict t (placedIn t p) 0
   pub narrow : drawnOf t p .plan .width ≤ allowedWidth (length (chain t))

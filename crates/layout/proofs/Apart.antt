@@ -14,8 +14,8 @@ use Rattle.layout.specs.Drawing.{join}
 use Rattle.layout.specs.inner.Held.{inwards, put, Fit}
 use Rattle.layout.proofs.Clean.{onSide, HasRoot, a-root, Node, root, below, top, point}
 use Rattle.layout.proofs.Points.{PointOf, pointOn, point-below, InWindow}
-use Rattle.layout.proofs.Motions.{shift-within}
-use Rattle.layout.proofs.Sides.{sideOn, held, put-held, put-home}
+use Rattle.layout.proofs.Motions.{shift-within, shift-none}
+use Rattle.layout.proofs.Sides.{sideOn, held, put-held}
 
 -- ---- the law
 
@@ -261,4 +261,4 @@ module _ (e t : ℕ) where
 -- A flipped layout is held by its right edge.
 pub flip-put : (e : ℕ) (L : Layout) → put right e 0 L ≡ flip e L
 unfolding held
-flip-put e L = put-held right e 0 L ∙ (sym (put-held left 0 0 (flip e L)) ∙ put-home (flip e L))
+flip-put e L = put-held right e 0 L ∙ shift-none (flip e L)

@@ -1,4 +1,4 @@
--- The drawing as a program makes it is the drawing: a subtree on a side (`hung-law`), and the whole tree is one that is held by its left edge at column 0 (`draw-hung`). The first row below
+-- The drawing as a program makes it is the drawing: a subtree on a side (`hung-law`), and the whole tree is one that is held by its left edge at column 0 (`hung-shift`, `draw-hung`). The first row below
 -- it is counted along the spine (`bottom-law`), and every column that is needed on the way is there (`rooms-law`).
 use mathlib.Core.Path.{_≡_, refl, ap, sym, _∙_}
 use mathlib.Core.List.{List, [], _∷_, map}
@@ -11,14 +11,14 @@ use Rattle.layout.specs.Layout.{Layout, blank, placed, width, height, sh
 use Rattle.layout.specs.Spine.{SpineNode, hangs, Role, knee, ordinary, switch, opposite, seen, roleAfter, handAfter, assigned, rolesAfter, facing}
 use Rattle.layout.specs.Drawing.{Part, part, hang, widest, join, place, draw}
 use Rattle.layout.specs.inner.Held.{inwards, put, hungOn, heightOn, widthOn, spineOn, roleNext, far, lay, rolesFrom, widestOn, Frame, Fit, Exact, bottom, Inside, GoesOn, Rooms, no-rooms, knee-room, ordinary-room, switch-room}
-use Rattle.layout.proofs.Motions.{width-shift, width-shifted, width-flip}
+use Rattle.layout.proofs.Motions.{width-shift, width-shifted, width-flip, shift-none}
 use Rattle.layout.proofs.Rows.{shape, count, size-facing}
 use Rattle.layout.proofs.Steps.{wide-join}
 use Rattle.layout.proofs.Heights.{last}
 use Rattle.layout.proofs.Spines.{spineTree, Light, light-end, light-node, size-seen, Goes, goes-on, parts, light-on, knee-wide}
 use Rattle.layout.proofs.Whole.{draw-rows}
 use Rattle.layout.proofs.Theorem.{promise}
-use Rattle.layout.proofs.Sides.{sideOn, partsOn, parts-on, draw-on, put-flip, held-join, put-home}
+use Rattle.layout.proofs.Sides.{sideOn, partsOn, parts-on, draw-on, put-flip, held, held-join, put-held}
 
 -- ---- a spine as it stands, and its parts
 
@@ -213,10 +213,13 @@ pub hung-law : (s : Side) (e f t : ℕ) (S : Tree) → Frame s e f (widestOn s S
 unfolding hungOn widestOn widthOn
 hung-law s e f t S fr fit = ap (put s e t) (draw-on s S) ∙ sym (all-laid (e + suc (width (draw (facing s S)))) s e f t S fr (some-inside s e (draw (facing s S)) fit) .drawn)
 
--- The whole tree is held by its left edge at column 0.
+-- The whole tree is held by its left edge at column 0, from row r on or from row 0.
+pub hung-shift : (r : ℕ) (t : Tree) → hungOn left 0 r t ≡ shift 0 r (draw t)
+unfolding hungOn facing held
+hung-shift r t = put-held left 0 r (draw t)
+
 pub draw-hung : (t : Tree) → draw t ≡ hungOn left 0 0 t
-unfolding hungOn facing
-draw-hung t = sym (put-home (draw t))
+draw-hung t = sym (hung-shift 0 t ∙ shift-none (draw t))
 
 pub height-size : (s : Side) (S : Tree) → heightOn s S ≤ size S
 unfolding heightOn

@@ -1,5 +1,5 @@
 -- The laws of the drawing. What is promised: Clean, Theorem, Records. The geometry: Points to Along. The rows: Rows, Heights. From a spine to the tree: Spines, Whole.
--- The form that the drawer's code follows: Sides, Held, Width. No shared rows: Apart, ApartAlong, EverySpine. Placements by record: Entries.
+-- The form that the drawer's code follows: Sides, Held, Width. No shared rows: Apart, ApartAlong, EverySpine. Placements by record: Entries. Several trees: Stacked.
 pub mod Clean
 pub mod Points
 pub mod Meet
@@ -19,3 +19,4 @@ pub mod Apart
 pub mod ApartAlong
 pub mod EverySpine
 pub mod Entries
+pub mod Stacked

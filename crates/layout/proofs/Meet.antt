@@ -113,7 +113,7 @@ node-ends root = (refl, refl)
 node-ends (below s n) = (ap (below s) (node-ends n .0), ap (below s) (node-ends n .1))
 
 -- A node as a piece on which its own point is.
-along-node : {L : Layout} (n : Node L) (q : ℕ) → Along n q (q * point n .column) (q * point n .row)
+pub along-node : {L : Layout} (n : Node L) (q : ℕ) → Along n q (q * point n .column) (q * point n .row)
 along-node n q = rw (node-ends n .0, node-ends n .1) (weights (at-start (point n) (point n) q))
 
 only-end : {L : Layout} {n m : Node L} → Ends n m → n ≡ m

@@ -1,7 +1,7 @@
 -- The motions keep a drawing untangled (`untangled-shift`, `untangled-flip`): a point of the moved drawing is a point of the drawing, moved back (`shifted`, `flipped`).
--- A shifted drawing is within its rectangle (`shift-within`).
+-- A shifted drawing is within its rectangle (`shift-within`) and reaches its far edges (`edge-wide`, `height-below`).
 use mathlib.Core.Path.{_≡_, refl, ap, ap₂}
-use Prim.Native.Nat.{ℕ, suc, _+_, _*_, _-_, _≤_}
+use Prim.Native.Nat.{ℕ, suc, _+_, _*_, _-_, _≤_, max}
 use native.Mathlib.Omega.{arith}
 use Rattle.segment.specs.declared.Point.{Point}
 use Rattle.segment.specs.Segment.{at}
@@ -74,6 +74,14 @@ unfolding shift width
 width-shifted e t z blank h i = omega arith
 width-shifted e t z (placed k P a b) h i = omega (arith, width-shifted e t z a h (omega arith), width-shifted e t z b h (omega arith))
 
+-- A drawing whose edge is at column e, and a node left of it.
+pub edge-wide : (e t : ℕ) (L : Layout) → max e (width (shift e t L)) ≡ e + width L
+edge-wide e t L = omega (arith, width-shift e t L, width-shifted e t (max e (width (shift e t L))) L (omega arith) (omega arith))
+
+-- A drawing that keeps its columns is as wide.
+pub width-home : (t : ℕ) (L : Layout) → width (shift 0 t L) ≡ width L
+width-home t L = omega (arith, edge-wide 0 t L)
+
 pub height-shift : (e t : ℕ) (L : Layout) → height (shift e t L) ≤ t + height L
 unfolding shift height
 height-shift e t blank = omega arith
@@ -84,6 +92,18 @@ pub height-shifted : (e t z : ℕ) (L : Layout) → t ≤ z → height (shift e 
 unfolding shift height
 height-shifted e t z blank h i = omega arith
 height-shifted e t z (placed k P a b) h i = omega (arith, height-shifted e t z a h (omega arith), height-shifted e t z b h (omega arith))
+
+-- A drawing whose top row is row t, and a node above it.
+pub height-below : (e t : ℕ) (L : Layout) → max t (height (shift e t L)) ≡ t + height L
+height-below e t L = omega (arith, height-shift e t L, height-shifted e t (max t (height (shift e t L))) L (omega arith) (omega arith))
+
+pub same-node : {k c c′ r r′ : ℕ} {x x′ y y′ : Layout} → c ≡ c′ → r ≡ r′ → x ≡ x′ → y ≡ y′ → placed k (at c r) x y ≡ placed k (at c′ r′) x′ y′
+same-node c r x y = cc
+
+pub shift-none : (L : Layout) → shift 0 0 L ≡ L
+unfolding shift
+shift-none blank = refl
+shift-none (placed k P a b) = same-node (omega arith) (omega arith) (shift-none a) (shift-none b)
 
 pub root-shift : (e t : ℕ) (L : Layout) → RootAt (at 0 0) L → RootAt (at e t) (shift e t L)
 unfolding shift

@@ -1,17 +1,20 @@
--- The conditions 21 to 25 in records (`Checked`): a plan gives each record a point, and a tree says which records are nodes and which are ends of an edge.
--- Any plan that gives the nodes of a tree the points of its drawing passes (`drawn-checked`).
+-- The conditions 21 to 25 in records (`Conditions`): a plan gives each record a point. A tree says which records are nodes and which are ends of an edge (`Checked`).
+-- Any plan that gives the nodes of a tree the points of its drawing, wherever it is shifted to, passes (`shifted-checked`).
 use mathlib.Core.Path.{_≡_, refl, ap, sym, subst, subst₂, _∙_}
 use mathlib.Core.Logic.{_⊎_, ⊎-map, _≢_}
 use Prim.Native.Nat.{ℕ, _*_, _≤_, _<_}
 use Rattle.segment.specs.declared.Point.{Point}
 use Rattle.segment.specs.Segment.{On}
+use Rattle.segment.proofs.Weights.{weights}
 use Rattle.table.specs.Table.{Side, left, right}
 use Rattle.table.specs.Tree.{Tree, node}
-use Rattle.layout.specs.Layout.{Layout, placed}
+use Rattle.layout.specs.Layout.{Layout, placed, shift}
 use Rattle.layout.specs.Drawing.{draw}
 use Rattle.layout.proofs.Clean.{HasRoot, a-root, root, edge, below, Node, Edge, top, point, recordOf, parent, child, side, Ends, OnEdge, Before, Clean}
-use Rattle.layout.proofs.Rows.{shape}
-use Rattle.layout.proofs.Theorem.{promise}
+use Rattle.layout.proofs.Points.{PointOf, pointOn}
+use Rattle.layout.proofs.Meet.{along-node}
+use Rattle.layout.proofs.Rows.{shape, shape-shift}
+use Rattle.layout.proofs.Theorem.{promise, clean-shifted}
 
 -- The record k is a node of the tree.
 pub data IsNode (k : ℕ) : Tree → Type 0 where
@@ -30,17 +33,21 @@ pub data Child (k c : ℕ) : Side → Tree → Type 0 where
   child-left : {i : ℕ} {s : Side} {a b : Tree} → Child k c s a → Child k c s (node i a b)
   child-right : {i : ℕ} {s : Side} {a b : Tree} → Child k c s b → Child k c s (node i a b)
 
-pub record Checked (t : Tree) (plan : ℕ → Point) : Type 0 where
+-- The conditions where the nodes are the records N, and the edges are from k to c on the side s, E k c s.
+pub record Conditions (N : ℕ → Type 0) (E : ℕ → ℕ → Side → Type 0) (plan : ℕ → Point) : Type 0 where
   -- 21
-  pub distinct : (k m : ℕ) → IsNode k t → IsNode m t → k ≢ m → plan k ≢ plan m
+  pub distinct : (k m : ℕ) → N k → N m → k ≢ m → plan k ≢ plan m
   -- more than 22 asks: never level
-  pub lower : (k c : ℕ) (s : Side) → Child k c s t → plan k .row < plan c .row
+  pub lower : (k c : ℕ) (s : Side) → E k c s → plan k .row < plan c .row
   -- 23 and 25
-  pub planar : (k c m d : ℕ) (s u : Side) → Child k c s t → Child m d u t → ¬ ((k ≡ m) × (c ≡ d)) → (q x y : ℕ) → 1 ≤ q → On (plan k) (plan c) q x y → On (plan m) (plan d) q x y →
+  pub planar : (k c m d : ℕ) (s u : Side) → E k c s → E m d u → ¬ ((k ≡ m) × (c ≡ d)) → (q x y : ℕ) → 1 ≤ q → On (plan k) (plan c) q x y → On (plan m) (plan d) q x y →
       (b : ℕ) × ((b ≡ k) ⊎ (b ≡ c)) × ((b ≡ m) ⊎ (b ≡ d)) × (x ≡ q * plan b .column) × (y ≡ q * plan b .row)
-  pub clear : (b k c : ℕ) (s : Side) → IsNode b t → Child k c s t → (q : ℕ) → 1 ≤ q → On (plan k) (plan c) q (q * plan b .column) (q * plan b .row) → (b ≡ k) ⊎ (b ≡ c)
+  pub clear : (b k c : ℕ) (s : Side) → N b → E k c s → (q : ℕ) → 1 ≤ q → On (plan k) (plan c) q (q * plan b .column) (q * plan b .row) → (b ≡ k) ⊎ (b ≡ c)
   -- 24
-  pub ordered : (k a b : ℕ) → Child k a left t → Child k b right t → Before (plan k) (plan a) (plan b)
+  pub ordered : (k a b : ℕ) → E k a left → E k b right → Before (plan k) (plan a) (plan b)
+
+abbrev pub Checked : Tree → (ℕ → Point) → Type 0
+Checked t plan = Conditions (λ k. IsNode k t) (λ k c s. Child k c s t) plan
 
 -- The plan gives each node its point.
 abbrev pub Agrees : (ℕ → Point) → Layout → Type 0
@@ -77,13 +84,9 @@ as-edge k c s (placed i P a b) (child-right h) = let z = as-edge k c s b h in re
 
 -- ---- from the layout to the plan
 
-module _ (plan : ℕ → Point) (L : Layout) (fit : Agrees plan L) (z : Clean L) where
+module _ (plan : ℕ → Point) (L : Layout) (fit : Agrees plan L) where
   there : {k : ℕ} (n : Node L) → recordOf n ≡ k → plan k ≡ point n
   there n e = subst (λ (k : ℕ). plan k ≡ point n) e (fit n)
-
-  -- a record names one node
-  unique : (n m : Node L) → recordOf n ≡ recordOf m → n ≡ m
-  unique n m e = z .distinct n m (sym (fit n) ∙ there m (sym e))
 
   ends : {k c : ℕ} {s : Side} (e : AsEdge k c s L) (n : Node L) → Ends n (e .l) → (recordOf n ≡ k) ⊎ (recordOf n ≡ c)
   ends e n h = ⊎-map (λ i. ap recordOf i ∙ e .from) (λ i. ap recordOf i ∙ e .to) h
@@ -91,30 +94,46 @@ module _ (plan : ℕ → Point) (L : Layout) (fit : Agrees plan L) (z : Clean L)
   along : {k c : ℕ} {s : Side} (e : AsEdge k c s L) {q x y : ℕ} → On (plan k) (plan c) q x y → OnEdge (e .l) q x y
   along e {q} {x} {y} o = subst₂ (λ (P Q : Point). On P Q q x y) (there (parent (e .l)) (e .from)) (there (child (e .l)) (e .to)) o
 
-  clean-checked : Checked (shape L) plan
-  clean-checked = record {
-    distinct = λ k m h i d e.
-        let a = as-node k L h in
-        let b = as-node m L i in
-        d (sym (a .is) ∙ (ap recordOf (z .distinct (a .n) (b .n) (sym (there (a .n) (a .is)) ∙ (e ∙ there (b .n) (b .is)))) ∙ b .is));
-    lower = λ k c s h. let e = as-edge k c s L h in rw (there (parent (e .l)) (e .from), there (child (e .l)) (e .to)) (z .lower (e .l));
-    planar = λ k c m d s u h i ne q x y one o p.
-        let e = as-edge k c s L h in
-        let f = as-edge m d u L i in
-        let w = z .planar (e .l) (f .l) (λ j. ne (sym (e .from) ∙ (ap (λ l. recordOf (parent l)) j ∙ f .from), sym (e .to) ∙ (ap (λ l. recordOf (child l)) j ∙ f .to))) q x y one
-        (along e o) (along f p) in
-        (recordOf (w .0), ends e (w .0) (w .1), ends f (w .0) (w .2), rw fit (w .3 .in-column), rw fit (w .3 .in-row));
-    clear = λ b k c s h i q one o.
-        let n = as-node b L h in
-        let e = as-edge k c s L i in
-        subst (λ (j : ℕ). (j ≡ k) ⊎ (j ≡ c)) (n .is) (ends e (n .n) (z .clear (n .n) (e .l) q one
-        (subst (λ (P : Point). OnEdge (e .l) q (q * P .column) (q * P .row)) (there (n .n) (n .is)) (along e o))));
-    ordered = λ k a b h i.
-        let e = as-edge k a left L h in
-        let f = as-edge k b right L i in
-        rw (there (parent (e .l)) (e .from), there (child (e .l)) (e .to), there (child (f .l)) (f .to))
-        (z .ordered (e .l) (f .l) (unique _ _ (e .from ∙ sym (f .from))) (e .on) (f .on));
-  }
+  -- a node and the points of an edge are points of the layout
+  pub node-shown : (k q : ℕ) → IsNode k (shape L) → PointOf q (q * plan k .column) (q * plan k .row) L
+  node-shown k q h = let a = as-node k L h in rw (there (a .n) (a .is)) (pointOn (a .n) (along-node (a .n) q))
 
-pub drawn-checked : (t : Tree) (plan : ℕ → Point) → Agrees plan (draw t) → Checked t plan
-drawn-checked t plan fit = let g = promise t in subst (λ (s : Tree). Checked s plan) (g .same) (clean-checked plan (draw t) fit (g .clean))
+  pub edge-shown : (k c : ℕ) (s : Side) {q x y : ℕ} → Child k c s (shape L) → On (plan k) (plan c) q x y → PointOf q x y L
+  edge-shown k c s h o = let e = as-edge k c s L h in pointOn (e .l) (weights (along e o))
+
+  module _ (z : Clean L) where
+    -- a record names one node
+    unique : (n m : Node L) → recordOf n ≡ recordOf m → n ≡ m
+    unique n m e = z .distinct n m (sym (fit n) ∙ there m (sym e))
+
+    clean-checked : Checked (shape L) plan
+    clean-checked = record {
+      distinct = λ k m h i d e.
+          let a = as-node k L h in
+          let b = as-node m L i in
+          d (sym (a .is) ∙ (ap recordOf (z .distinct (a .n) (b .n) (sym (there (a .n) (a .is)) ∙ (e ∙ there (b .n) (b .is)))) ∙ b .is));
+      lower = λ k c s h. let e = as-edge k c s L h in rw (there (parent (e .l)) (e .from), there (child (e .l)) (e .to)) (z .lower (e .l));
+      planar = λ k c m d s u h i ne q x y one o p.
+          let e = as-edge k c s L h in
+          let f = as-edge m d u L i in
+          let w = z .planar (e .l) (f .l) (λ j. ne (sym (e .from) ∙ (ap (λ l. recordOf (parent l)) j ∙ f .from), sym (e .to) ∙ (ap (λ l. recordOf (child l)) j ∙ f .to))) q x y one
+          (along e o) (along f p) in
+          (recordOf (w .0), ends e (w .0) (w .1), ends f (w .0) (w .2), rw fit (w .3 .in-column), rw fit (w .3 .in-row));
+      clear = λ b k c s h i q one o.
+          let n = as-node b L h in
+          let e = as-edge k c s L i in
+          subst (λ (j : ℕ). (j ≡ k) ⊎ (j ≡ c)) (n .is) (ends e (n .n) (z .clear (n .n) (e .l) q one
+          (subst (λ (P : Point). OnEdge (e .l) q (q * P .column) (q * P .row)) (there (n .n) (n .is)) (along e o))));
+      ordered = λ k a b h i.
+          let e = as-edge k a left L h in
+          let f = as-edge k b right L i in
+          rw (there (parent (e .l)) (e .from), there (child (e .l)) (e .to), there (child (f .l)) (f .to))
+          (z .ordered (e .l) (f .l) (unique _ _ (e .from ∙ sym (f .from))) (e .on) (f .on));
+    }
+
+-- The drawing with its left edge at column e and its top row at row r.
+pub shape-drawn : (e r : ℕ) (t : Tree) → shape (shift e r (draw t)) ≡ t
+shape-drawn e r t = shape-shift e r (draw t) ∙ promise t .same
+
+pub shifted-checked : (e r : ℕ) (t : Tree) (plan : ℕ → Point) → Agrees plan (shift e r (draw t)) → Checked t plan
+shifted-checked e r t plan fit = subst (λ (s : Tree). Checked s plan) (shape-drawn e r t) (clean-checked plan (shift e r (draw t)) fit (clean-shifted e r t))

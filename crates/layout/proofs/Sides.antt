@@ -11,6 +11,7 @@ use Rattle.layout.specs.Layout.{Layout, blank, placed, width, shift, fli
 use Rattle.layout.specs.Spine.{SpineNode, hangs, spine, Role, knee, ordinary, switch, opposite, seen, roleAfter, handAfter, Assigned, assigned, rolesAfter, roles, facing}
 use Rattle.layout.specs.Drawing.{Part, hang, join, draw, drawing}
 use Rattle.layout.specs.inner.Held.{inwards, put, hungOn, spineOn, rolesFrom, Exact, heightOn, widthOn}
+use Rattle.layout.proofs.Motions.{same-node}
 use Rattle.layout.proofs.Rows.{mirror-twice, shape, facing-twice}
 use Rattle.layout.proofs.Spines.{parts, spine-on, first-knee}
 use Rattle.layout.proofs.Whole.{drawn, whole, draw-parts}
@@ -76,9 +77,6 @@ draw-on s S = draw-parts (facing s S) ∙ ap whole (parts-on s S)
 
 -- ---- layouts held by an edge
 
-pub same-node : {k c c′ r r′ : ℕ} {x x′ y y′ : Layout} → c ≡ c′ → r ≡ r′ → x ≡ x′ → y ≡ y′ → placed k (at c r) x y ≡ placed k (at c′ r′) x′ y′
-same-node c r x y = cc
-
 put-shift : (s : Side) (e t i j : ℕ) (L : Layout) → put s e t (shift i j L) ≡ put s (inwards s e i) (t + j) L
 unfolding put shift inwards
 put-shift s e t i j blank = refl
@@ -103,11 +101,6 @@ put-held left e t blank = refl
 put-held right e t blank = refl
 put-held left e t (placed k P a b) = same-node refl refl (put-held left e t a) (put-held left e t b)
 put-held right e t (placed k P a b) = same-node (omega arith) refl (put-held right e t b) (put-held right e t a)
-
-pub put-home : (L : Layout) → put left 0 0 L ≡ L
-unfolding put
-put-home blank = refl
-put-home (placed k P a b) = same-node (omega arith) (omega arith) (put-home a) (put-home b)
 
 put-join : (s : Side) (e t k c r : ℕ) (h : Side) (D N : Layout) → put s e t (join k (at c r) (sideOn s h) D N) ≡ join k (at (inwards s e c) (t + r)) h (put s e t D) (put s e t N)
 unfolding put join inwards sideOn opposite

@@ -4,11 +4,12 @@ use Prim.Native.Nat.{ℕ, suc, _+_, _*_, _^_, _≤_, _<_}
 use native.Mathlib.Omega.{arith}
 use Rattle.segment.specs.Segment.{at}
 use Rattle.table.specs.Tree.{Tree, size}
-use Rattle.layout.specs.Layout.{Layout, width, height}
+use Rattle.layout.specs.Layout.{Layout, width, height, shift}
 use Rattle.layout.specs.Drawing.{draw}
 use Rattle.layout.proofs.Clean.{Clean}
 use Rattle.layout.proofs.Points.{RootAt}
 use Rattle.layout.proofs.Meet.{untangled-clean}
+use Rattle.layout.proofs.Motions.{untangled-shift}
 use Rattle.layout.proofs.Rows.{shape, HoldsRow}
 use Rattle.layout.proofs.Whole.{drawn}
 
@@ -34,3 +35,7 @@ promise t = let d = drawn t in record {
   short = omega (arith, d .short, ap size (d .same));
   filled = d .filled;
 }
+
+-- 21 to 25 hold wherever it is shifted to.
+pub clean-shifted : (e r : ℕ) (t : Tree) → Clean (shift e r (draw t))
+clean-shifted e r t = untangled-clean (untangled-shift e r (drawn t .stands .untangled))

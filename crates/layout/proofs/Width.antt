@@ -6,12 +6,12 @@ use Prim.Native.Nat.{ℕ, _+_, _≤_, max}
 use native.Mathlib.Omega.{arith}
 use Rattle.table.specs.Table.{Side, left, right}
 use Rattle.table.specs.Tree.{Tree, none, node, size}
-use Rattle.layout.specs.Layout.{Layout, width, height, shift, flip}
+use Rattle.layout.specs.Layout.{Layout, width, height, flip}
 use Rattle.layout.specs.Spine.{SpineNode, hangs, Role, knee, ordinary, switch, seen, runRole, roleAfter, handAfter, assigned, rolesAfter, facing}
 use Rattle.layout.specs.Drawing.{Part, part, hang, widest, join, place, draw}
 use Rattle.layout.specs.inner.Held.{widthOn, widestOn}
 use Rattle.layout.specs.inner.Width.{edge, turn}
-use Rattle.layout.proofs.Motions.{width-shift, width-shifted}
+use Rattle.layout.proofs.Motions.{edge-wide}
 use Rattle.layout.proofs.Rows.{size-facing}
 use Rattle.layout.proofs.Spines.{spineTree, Light, light-end, light-node, light-spine, size-seen, size-over, Goes, goes-on, parts, knee-wide, widest-one}
 use Rattle.layout.proofs.Whole.{drawn, whole}
@@ -25,10 +25,6 @@ reaches (part o k s D ∷ ps) = max (edge o + width D) (reaches ps)
 unfoldable pub turns : List Part → Bool
 turns [] = false
 turns (part o k s D ∷ ps) = turn o (turns ps)
-
--- A drawing whose edge is at column e, and a node left of it.
-edge-wide : (e t : ℕ) (D : Layout) → max e (width (shift e t D)) ≡ e + width D
-edge-wide e t D = omega (arith, width-shift e t D, width-shifted e t (max e (width (shift e t D))) D (omega arith) (omega arith))
 
 -- Parts in the order of step 2, no drawing wider than W; after a switch (true) there is a knee.
 data InStep (W : ℕ) : Bool → List Part → Type 0 where

@@ -1,5 +1,6 @@
--- The drawing by document 01's steps (document 004, section 4, Algorithm BT-Ordered-Draw). Read in this order.
+-- The drawing by document 01's steps (document 004, section 4, Algorithm BT-Ordered-Draw), and of several trees. Read in this order.
 pub mod Layout
 pub mod Spine
 pub mod Drawing
+pub mod Trees
 pub mod inner

@@ -10,10 +10,11 @@ use lib.ListN.{getD, length, set, length-set}
 use lib.Seq.{getD-set-same, getD-set-other}
 use Rattle.table.specs.Lists.{member, count}
 use Rattle.table.specs.Table.{Side, left, right, records, leftOf, rightOf, linkOf, chain}
-use Rattle.table.specs.Tree.{Tree, none, node, nodes, treeAt, tree}
+use Rattle.table.specs.Tree.{Tree, none, node, nodes, treeAt}
+use Rattle.table.specs.Trees.{roots, trees, nodesOf}
 use Rattle.table.specs.Refusal.{fault}
 use Rattle.table.proofs.Lists.{same, same-one, member-count, repeats-count}
-use Rattle.table.proofs.Chain.{count-node, reached}
+use Rattle.table.proofs.Chain.{count-node, reached, tree-within}
 use Rattle.table.proofs.Accepted.{links-chained, nodes-distinct, down, tree-unfolds, tree-none}
 use Rattle.layout.specs.Spine.{SpineNode, hangs, spine, Role, switch, opposite, facing, seen, roleAfter, handAfter, Assigned, assigned, rolesAfter, roles}
 use Rattle.layout.specs.inner.Held.{spineOn, roleNext}
@@ -72,7 +73,7 @@ nodes-named t ok k n x h = reached (Named t) t step (records t) k n x (member-co
 
 pub once : (t : List ℕ) → fault t ≡ 0 → (k : ℕ) → Named t k → (x : ℕ) → count x (nodes (treeAt t k)) ≤ 1
 once t ok k (inl e) x = rw (e, tree-none t) (unfold nodes count in omega arith)
-once t ok k (inr h) x = down t ok (λ n. count x (nodes (treeAt t n)) ≤ 1) (λ m. repeats-count (nodes (tree t)) .0 (nodes-distinct t ok) x) step k h
+once t ok k (inr h) x = down t ok (λ n. count x (nodes (treeAt t n)) ≤ 1) (λ n r m. omega (arith, tree-within (records t) t (roots t) n r x, repeats-count (nodesOf (trees t)) .0 (nodes-distinct t ok) x)) step k h
   where
     split : (n : ℕ) → T (member n (chain t)) → count x (nodes (treeAt t n)) ≡ same x n + (count x (nodes (treeAt t (leftOf t n))) + count x (nodes (treeAt t (rightOf t n))))
     split n m = ap (λ (S : Tree). count x (nodes S)) (tree-unfolds t ok n m) ∙ count-node x n _ _

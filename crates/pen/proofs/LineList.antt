@@ -1,16 +1,17 @@
 -- The lines of a table as a list: what holds of every line holds of each in the list (`line-by`, `line-real`), every line stands there (`line-listed`) and, in an
--- accepted table, once (`line-once`); there is one fewer than there are nodes (`lines-number`). Rests on the laws of an accepted table.
+-- accepted table, once (`line-once`); there are as many as there are nodes other than roots (`lines-number`). Rests on the laws of an accepted table.
 use mathlib.Core.Path.{_≡_, refl, sym, ap, _∙_}
 use mathlib.Core.Logic.{_≢_, inl, inr, ⊎-elim}
 use mathlib.Core.List.{List, [], _∷_, _++_}
-use Prim.Native.Nat.{ℕ, zero, suc, _<_}
+use Prim.Native.Nat.{ℕ, zero, suc, _+_, _<_}
 use native.Mathlib.Decide.{decLt}
 use native.Mathlib.Omega.{arith}
 use lib.Dec.{T}
 use lib.ListN.{length, getD, List·getD-eq-default}
 use Rattle.table.specs.Lists.{member}
 use Rattle.table.specs.Table.{Side, left, right, records, leftOf, rightOf, linkOf, rootOf, chain, Chained, Line}
-use Rattle.table.specs.Refusal.{links, fault}
+use Rattle.table.specs.Trees.{links, roots}
+use Rattle.table.specs.Refusal.{fault}
 use Rattle.table.specs.inner.Steps.{present}
 use Rattle.table.proofs.Lists.{member-cons}
 use Rattle.table.proofs.Accepted.{records-bounds, chain-within, link-within}
@@ -100,7 +101,8 @@ module _ (t : List ℕ) (ok : fault t ≡ 0) where
       places-differ (children t) i j (children-distinct t ok) h (omega (arith, ended-length (lines t), ap length same))
       (ap (λ (l : List ℕ). getD l i 0) (sym same) ∙ ended-at (lines t) i ∙ e ∙ sym (ended-at (lines t) j) ∙ ap (λ (l : List ℕ). getD l j 0) same)
 
-  pub lines-number : Chained t (rootOf t) → suc (length (lines t)) ≡ length (chain t)
+  -- A line to each node but the roots.
+  pub lines-number : Chained t (rootOf t) → length (roots t) + length (lines t) ≡ length (chain t)
   lines-number r = omega (arith, children-length t ok r, ended-length (lines t), ap length (ended-children t (chain t)))
 
   -- The ends of the line at a place are records; past the last place both are 0.

@@ -1,5 +1,5 @@
 -- The strokes of the lines of a table: line i gives stroke 2i, a lift to its parent, and stroke 2i + 1, a draw to its child (`line-lift`, `line-draw`); of an accepted
--- table each line does so once (`plotted`), and n nodes, at least 1, have 2·(n − 1) strokes (`strokes-number`). Rests on LineList.
+-- table each line does so once (`plotted`), and n nodes, at least 1, in m trees have 2·(n − m) strokes (`strokes-number`). Rests on LineList.
 use mathlib.Core.Path.{_≡_, refl, sym, ap, _∙_}
 use mathlib.Core.Logic.{_≢_}
 use mathlib.Core.List.{List, [], _∷_}
@@ -9,6 +9,7 @@ use native.Mathlib.Omega.{arith}
 use lib.ListN.{length, getD}
 use borrow.Author.Tests.{ne-eqb}
 use Rattle.table.specs.Table.{Side, chain, Line}
+use Rattle.table.specs.Trees.{roots}
 use Rattle.table.specs.Refusal.{fault}
 use Rattle.table.proofs.Accepted.{some-root}
 use Rattle.pen.specs.declared.lines.Ends.{Ends}
@@ -73,5 +74,6 @@ module _ (t p : List ℕ) (pitch : ℕ) (ok : fault t ≡ 0) where
       one j n e (no a) (yes b) = absurd (line-once t ok place j b n (sym e))
       one j n e (no a) (no b) = omega arith
 
-  pub strokes-number : 1 ≤ length (chain t) → length (strokes p pitch (lines t)) ≡ 2 * (length (chain t) - 1)
+  -- Two strokes for each node but the roots.
+  pub strokes-number : 1 ≤ length (chain t) → length (strokes p pitch (lines t)) ≡ 2 * (length (chain t) - length (roots t))
   strokes-number h = omega (arith, strokes-length p pitch (lines t), lines-number t ok (some-root t ok (length (chain t)) refl (λ e. omega arith)))

@@ -86,6 +86,13 @@ point-lies {P = P} {Q} c = let i = at-point (weights (c .on-PQ)) refl in record 
 pub point-ends : {B P Q : Point} → Clash B B P Q → (B ≡ P) ⊎ (B ≡ Q) → ⊥
 point-ends {B} c e = c .no-common-end B (inl refl) e (at-point (weights (c .on-PQ)) refl)
 
+-- two points do not clash: what they share ends both
+pub points-apart : {A B : Point} → Clash A A B B → ⊥
+points-apart {A} {B} c =
+    let i = at-point (weights (c .on-PQ)) refl in
+    let j = at-point (weights (c .on-RS)) refl in
+    point-ends c (inl (point (eq-of-mul-eq-mul-left (c .q) (c .q≥1) _ _ (sym (i .in-column) ∙ j .in-column)) (eq-of-mul-eq-mul-left (c .q) (c .q≥1) _ _ (sym (i .in-row) ∙ j .in-row))))
+
 clash→lies : {P A B : Point} → Clash P A P B → Lies A P B ⊎ Lies B P A
 clash→lies {P} {A} {B} h = go (weights (h .on-PQ)) (weights (h .on-RS)) (decLe _ _) (decLt 0 _)
   where

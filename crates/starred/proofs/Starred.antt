@@ -5,15 +5,17 @@ use mathlib.Core.List.{List, [], _∷_}
 use Prim.Native.Nat.{ℕ}
 use lib.Dec.{T, eqb, eqb→eq}
 use mir.Facts.{and-yes}
-use Rattle.table.specs.Lists.{any, member, repeats, count}
+use Rattle.table.specs.Lists.{any, member, repeats, count, select}
 use Rattle.table.specs.Table.{word, follow, chain, free}
 use Rattle.table.specs.Tree.{size, nodes, descend}
-use Rattle.table.specs.Refusal.{badLength, badHead, beyond, broken, occupied, badFree, stray, badLinks, isEmpty, links, badTree, shortPlacements, fault, refusal}
+use Rattle.table.specs.Trees.{links, startsTree, nodesOf}
+use Rattle.table.specs.Refusal.{badLength, badHead, beyond, broken, occupied, badFree, stray, badLinks, isEmpty, badTree, shortPlacements, fault, refusal}
 use Rattle.layout.specs.Layout.{width, height, shift, flip, mirror}
 use Rattle.layout.specs.Spine.{spine, opposite, seen, runRole, roleAfter, handAfter, rolesAfter, roles}
 use Rattle.layout.specs.Drawing.{hang, widest, join, place, steps, drawing, draw}
+use Rattle.layout.specs.Trees.{drawFrom, widthOf, heightOf}
 use Rattle.drawing.specs.declared.Drawn.{Drawn}
-use Rattle.drawing.specs.Answer.{store, planOf, drawnOf, placedIn}
+use Rattle.drawing.specs.Answer.{store, storeAll, planOf, drawnOf, placedIn}
 use Rattle.segment.specs.Segment.{cross}
 use Rattle.segment.specs.inner.Test.{overlap, spans, astride, splits, divides}
 use Rattle.segment.proofs.SharedPoint.{meets}
@@ -21,7 +23,7 @@ use Rattle.segment.proofs.Clashing.{same as samePlace}
 use Rattle.segment.proofs.Crossing.{crosses}
 use Rattle.segment.proofs.FourKinds.{along, clashes}
 use Rattle.verdict.specs.Verdict.{Verdict}
-use Rattle.verdict.proofs.Decide.{present, someLine, samePoint, childAbove, twoLines, inOrder, outOfOrder, verdictOf, decided}
+use Rattle.verdict.proofs.Decide.{present, someLine, samePoint, childAbove, twoLines, somePoint, clashing, inOrder, outOfOrder, verdictOf, decided}
 use Rattle.width.specs.Allowed.{greatest, floorLog2, allowedWidth}
 use Rattle.starred.specs.Cases.{Case, draws, checks, allows, accepted, Right, cases}
 
@@ -78,5 +80,5 @@ every [] ok = tt
 every (c ∷ cs) ok = let z = and-yes (test c) (tests cs) ok in (right c (z .0), every cs (z .1))
 
 pub starred : All Right cases
-unfolding any member repeats count word follow chain free size nodes descend badLength badHead beyond broken occupied badFree stray badLinks isEmpty links badTree shortPlacements fault refusal width height shift flip mirror spine opposite seen runRole roleAfter handAfter rolesAfter roles hang widest join place steps drawing draw store planOf drawnOf placedIn cross overlap spans astride splits divides meets samePlace crosses along clashes present someLine samePoint childAbove twoLines inOrder outOfOrder verdictOf greatest floorLog2 allowedWidth same listed test tests
+unfolding any member repeats count select word follow chain free size nodes descend badLength badHead beyond broken occupied badFree stray badLinks isEmpty links startsTree nodesOf badTree shortPlacements fault refusal width height shift flip mirror spine opposite seen runRole roleAfter handAfter rolesAfter roles hang widest join place steps drawing draw drawFrom widthOf heightOf store storeAll planOf drawnOf placedIn cross overlap spans astride splits divides meets samePlace crosses along clashes present someLine samePoint childAbove twoLines somePoint clashing inOrder outOfOrder verdictOf greatest floorLog2 allowedWidth same listed test tests
 starred = every cases tt

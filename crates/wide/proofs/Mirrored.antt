@@ -1,7 +1,7 @@
 -- The exchanged table drawn in place of the table: what drawing it asks (`mirrored-asked`), and its placements, exchanged, are those of the wide drawing
 -- (`wide-turned`). Rests on the laws of the exchanged table and on Transposed.
-use mathlib.Core.Path.{_≡_, refl, sym, ap, _∙_}
-use mathlib.Core.List.{List, _++_}
+use mathlib.Core.Path.{_≡_, refl, sym, ap, ap₂, _∙_}
+use mathlib.Core.List.{List, _++_, map}
 use Prim.Native.Nat.{ℕ, _+_, _*_, _≤_, _<_}
 use native.Mathlib.Omega.{arith}
 use lib.Dec.{T}
@@ -9,20 +9,22 @@ use lib.ListN.{length, getD, take, drop}
 use lib.Seq.{take-at, length-front}
 use Rattle.table.specs.Lists.{member}
 use Rattle.table.specs.Table.{records, rootOf, chain, Chained}
-use Rattle.table.specs.Tree.{Tree, size, treeAt, tree}
+use Rattle.table.specs.Tree.{Tree, size, treeAt}
+use Rattle.table.specs.Trees.{trees}
 use Rattle.table.specs.Refusal.{fault}
 use Rattle.table.proofs.Accepted.{records-bounds, chain-within, chain-length}
-use Rattle.layout.specs.Layout.{width, height, mirror}
-use Rattle.layout.specs.Drawing.{draw}
+use Rattle.layout.specs.Layout.{mirror}
+use Rattle.layout.specs.Trees.{drawTrees, widthOf, heightOf}
 use Rattle.layout.proofs.Rows.{size-mirror}
 use Rattle.measure.specs.inner.Sized.{Named, Sized}
 use Rattle.drawing.specs.declared.Plan.{Plan}
-use Rattle.drawing.specs.Answer.{store, planOf}
+use Rattle.drawing.specs.Answer.{storeAll, planOf}
+use Rattle.drawing.specs.inner.Placing.{Led}
 use Rattle.exchange.specs.Exchanged.{exchanged, exchangedPlacements, exchangeLinks, exchangePoint, each}
-use Rattle.exchange.proofs.Table.{exchanged-length, exchanged-head, exchanged-chain, exchanged-fault, exchanged-tree-at, exchanged-tree}
+use Rattle.exchange.proofs.Table.{exchanged-length, exchanged-head, exchanged-chain, exchanged-fault, exchanged-tree-at, exchanged-roots, exchanged-trees}
 use Rattle.wide.specs.Wide.{transposed, drawWide}
 use Rattle.wide.specs.inner.Planned.{widePlanOf}
-use Rattle.wide.proofs.Transposed.{width-transposed, height-transposed, turned-stored}
+use Rattle.wide.proofs.Transposed.{width-turned, height-turned, turned-stored}
 
 module _ (t : List ℕ) (ok : fault t ≡ 0) where
   mirrored-fault : fault (exchanged t) ≡ 0
@@ -38,17 +40,23 @@ module _ (t : List ℕ) (ok : fault t ≡ 0) where
       at : (k : ℕ) → Named t k → getD sizes k 0 ≡ size (treeAt (exchanged t) k)
       at k n = s .sized k n ∙ (sym (size-mirror (treeAt t k)) ∙ sym (ap size (exchanged-tree-at t ok k n)))
 
-  pub wide-turned : (p : List ℕ) → 2 * records t ≤ length p → exchangedPlacements t (store (draw (tree (exchanged t))) p) ≡ store (drawWide (tree t)) p
+  -- The roots are the same.
+  mirrored-led : (order : List ℕ) → Led t order → Led (exchanged t) order
+  mirrored-led order l = record { long = omega (arith, l .long, ap length (exchanged-roots t ok)); led = λ i h. l .led i (omega (arith, h, ap length (exchanged-roots t ok))) ∙ sym (ap (λ (ks : List ℕ). getD ks i 0) (exchanged-roots t ok)) }
+
+  pub wide-turned : (p : List ℕ) → 2 * records t ≤ length p → exchangedPlacements t (storeAll (drawTrees (trees (exchanged t))) p) ≡ storeAll (drawWide (trees t)) p
   unfolding exchangedPlacements drawWide
   wide-turned p long = rw (sym (exchanged-chain t)) (turned-stored (exchanged t) p mirrored-fault (mirrored-room (length p) long)) ∙
-      ap (λ (T : Tree). store (transposed (draw T)) p) (exchanged-tree t ok)
+      ap (λ (ts : List Tree). storeAll (map transposed (drawTrees ts)) p) (exchanged-trees t ok)
 
   -- The extents, exchanged.
-  pub wide-extents : (width (draw (tree (exchanged t))) ≡ height (drawWide (tree t))) × (height (draw (tree (exchanged t))) ≡ width (drawWide (tree t)))
+  pub wide-extents : (widthOf (drawTrees (trees (exchanged t))) ≡ heightOf (drawWide (trees t))) × (heightOf (drawTrees (trees (exchanged t))) ≡ widthOf (drawWide (trees t)))
   unfolding drawWide
   wide-extents =
-      let e = exchanged-tree t ok in
-      (ap (λ (T : Tree). width (draw T)) e ∙ sym (height-transposed (draw (mirror (tree t)))), ap (λ (T : Tree). height (draw T)) e ∙ sym (width-transposed (draw (mirror (tree t)))))
+      let e = exchanged-trees t ok in (
+        ap (λ (ts : List Tree). widthOf (drawTrees ts)) e ∙ sym (height-turned (drawTrees (map mirror (trees t)))),
+        ap (λ (ts : List Tree). heightOf (drawTrees ts)) e ∙ sym (width-turned (drawTrees (map mirror (trees t)))),
+      )
 
 -- ---- for the code: a copy of the table is exchanged and drawn
 
@@ -79,21 +87,24 @@ pub listed-room : (t ks : List ℕ) (places long : ℕ) → fault t ≡ 0 → 2 
 listed-room t ks places long ok room same listed k m = omega (arith, room, same, chain-within t ok k (rw listed at m) .1)
 
 -- What drawing the copy asks.
-pub mirrored-asked : (t u sizes : List ℕ) (long places n : ℕ) → fault t ≡ 0 → u ≡ exchanged t → Chained t (rootOf t) → Sized t sizes → long ≡ 4097 → 2 * records t ≤ places →
-    n ≡ length (chain t) → (fault u ≡ 0) × (Chained u (rootOf u) × (Sized u sizes × ((long ≡ 4097) × ((2 * records u ≤ places) × (n ≡ length (chain u))))))
-mirrored-asked t u sizes long places n ok e root sized all room count = rw e (
+pub mirrored-asked : (t u sizes order : List ℕ) (long places n : ℕ) → fault t ≡ 0 → u ≡ exchanged t → Chained t (rootOf t) → Sized t sizes → Led t order → long ≡ 4097 → 2 * records t ≤ places →
+    n ≡ length (chain t) → (fault u ≡ 0) × (Chained u (rootOf u) × (Sized u sizes × (Led u order × ((long ≡ 4097) × ((2 * records u ≤ places) × (n ≡ length (chain u)))))))
+mirrored-asked t u sizes order long places n ok e root sized led all room count = rw e (
   mirrored-fault t ok,
-  (rw (exchanged-chain t, exchanged-head t 1 (omega arith)) root, (mirrored-sized t ok sizes sized, (all, (mirrored-room t ok places room, rw (exchanged-chain t) count)))),
+  (
+    rw (exchanged-chain t, exchanged-head t 1 (omega arith)) root,
+    (mirrored-sized t ok sizes sized, (mirrored-led t ok order led, (all, (mirrored-room t ok places room, rw (exchanged-chain t) count)))),
+  ),
 )
 
 -- What it gives, when the placements are exchanged too.
-pub wide-planned : (t u p p′ p″ ks : List ℕ) (a : Plan) → fault t ≡ 0 → 2 * records t ≤ length p → u ≡ exchanged t → ks ≡ chain t → (a ≡ planOf u) × (p′ ≡ store (draw (tree u)) p) →
-    p″ ≡ each exchangePoint ks p′ → (_≡_ {A = Plan} (record { nodes = a .nodes; width = a .height; height = a .width }) (widePlanOf t)) × (p″ ≡ store (drawWide (tree t)) p)
+pub wide-planned : (t u p p′ p″ ks : List ℕ) (a : Plan) → fault t ≡ 0 → 2 * records t ≤ length p → u ≡ exchanged t → ks ≡ chain t → (a ≡ planOf u) × (p′ ≡ storeAll (drawTrees (trees u)) p) →
+    p″ ≡ each exchangePoint ks p′ → (_≡_ {A = Plan} (record { nodes = a .nodes; width = a .height; height = a .width }) (widePlanOf t)) × (p″ ≡ storeAll (drawWide (trees t)) p)
 unfolding planOf widePlanOf exchangedPlacements
 wide-planned t u p p′ p″ ks a ok long e listed d f = (
-  let x : a .nodes ≡ length (chain t) = ap (λ (b : Plan). b .nodes) (d .0) ∙ (rw (e, exchanged-chain t)) in
-      let y : a .height ≡ width (drawWide (tree t)) = ap (λ (b : Plan). b .height) (d .0) ∙ (rw e (wide-extents t ok .1)) in
-      let z : a .width ≡ height (drawWide (tree t)) = ap (λ (b : Plan). b .width) (d .0) ∙ (rw e (wide-extents t ok .0)) in
+  let x : a .nodes ≡ length (chain t) = ap (λ (b : Plan). b .nodes) (d .0) ∙ (ap (λ (v : List ℕ). length (chain v)) e ∙ ap length (exchanged-chain t)) in
+      let y : a .height ≡ widthOf (drawWide (trees t)) = ap (λ (b : Plan). b .height) (d .0) ∙ (ap (λ (v : List ℕ). heightOf (drawTrees (trees v))) e ∙ wide-extents t ok .1) in
+      let z : a .width ≡ heightOf (drawWide (trees t)) = ap (λ (b : Plan). b .width) (d .0) ∙ (ap (λ (v : List ℕ). widthOf (drawTrees (trees v))) e ∙ wide-extents t ok .0) in
       cc,
-  f ∙ (rw (listed, d .1, e) (wide-turned t ok p long)),
+  f ∙ (ap₂ (each exchangePoint) listed (d .1 ∙ ap (λ (v : List ℕ). storeAll (drawTrees (trees v)) p) e) ∙ wide-turned t ok p long),
 )

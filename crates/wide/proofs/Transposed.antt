@@ -1,27 +1,29 @@
--- The transposed layout: its extents are exchanged (`width-transposed`, `height-transposed`), and the placements of an accepted table's drawing, exchanged, are
--- those of the transposed drawing (`turned-stored`). Rests on the laws of `store`, of exchanged placements and of an accepted table.
+-- Transposed layouts, one or several: the extents are exchanged (`width-transposed`, `height-transposed`, `width-turned`, `height-turned`), the records are the same (`times-turned`), and the
+-- placements of an accepted table's drawings, exchanged, are those of the drawings transposed (`turned-stored`). Rests on the laws of `store` and `storeAll`, of exchanged placements and of an
+-- accepted table.
 use mathlib.Core.Path.{_≡_, refl, sym, ap, ap₂, _∙_}
 use mathlib.Core.Logic.{inl, inr}
 use mathlib.Core.Bool.{Bool, true, false}
-use mathlib.Core.List.{List}
+use mathlib.Core.List.{List, [], _∷_, map}
 use Prim.Native.Nat.{ℕ, _+_, _*_, _≤_, _<_}
 use native.Mathlib.Omega.{arith}
 use lib.ListN.{length}
 use Rattle.segment.specs.inner.Test.{transpose}
 use Rattle.table.specs.Lists.{member, count}
 use Rattle.table.specs.Table.{records, chain}
-use Rattle.table.specs.Tree.{Tree, node, nodes, tree}
+use Rattle.table.specs.Tree.{Tree, node, nodes}
+use Rattle.table.specs.Trees.{trees, nodesOf}
 use Rattle.table.specs.Refusal.{fault}
 use Rattle.table.proofs.Lists.{T-true, T-false, Alike, alike, member-count, member-none}
 use Rattle.table.proofs.Accepted.{chain-within, chain-distinct, nodes-chain}
 use Rattle.layout.specs.Layout.{Layout, blank, placed, width, height}
-use Rattle.layout.specs.Drawing.{draw}
+use Rattle.layout.specs.Trees.{drawTrees, widthOf, heightOf}
 use Rattle.layout.proofs.Rows.{shape}
-use Rattle.layout.proofs.Theorem.{promise}
-use Rattle.drawing.specs.Answer.{store}
+use Rattle.drawing.specs.Answer.{store, storeAll}
 use Rattle.layout.specs.inner.Entries.{pointAt}
 use Rattle.layout.proofs.Entries.{pair, pair-length, pair-point, pair-other, same-points}
-use Rattle.drawing.proofs.StoredPoints.{times, times-placed, store-length, kept-point}
+use Rattle.drawing.proofs.StoredPoints.{times, times-placed, store-length}
+use Rattle.drawing.proofs.StoredTrees.{timesIn, times-trees, stored-length, stored-point-kept}
 use Rattle.exchange.specs.Exchanged.{exchangePoint, each, exchangedPlacements}
 use Rattle.exchange.proofs.Placements.{points-long, points-exchanged, points-other}
 use Rattle.wide.specs.Wide.{transposed}
@@ -36,7 +38,7 @@ unfolding width height transposed
 height-transposed blank = refl
 height-transposed (placed k P a b) = rw (height-transposed a, height-transposed b)
 
-pub shape-transposed : (L : Layout) → shape (transposed L) ≡ shape L
+shape-transposed : (L : Layout) → shape (transposed L) ≡ shape L
 unfolding shape transposed
 shape-transposed blank = refl
 shape-transposed (placed k P a b) = ap₂ (node k) (shape-transposed a) (shape-transposed b)
@@ -63,24 +65,47 @@ store-turned k (placed j P a b) p q long room h =
     here (inl e) x y = rw (e .0) (pair-point q j (transpose P) (omega (arith, room, long, e .0)) ∙ ap transpose (sym (pair-point p j P (omega (arith, room, e .0)))))
     here (inr n) x y = pair-other q j k (transpose P) (n .0) ∙ (h (omega (arith, times-placed k j P a b, n .1, x, y)) ∙ ap transpose (sym (pair-other p j k P (n .0))))
 
--- The drawing of an accepted table: its placements exchanged are those of the drawing transposed.
-pub turned-stored : (t p : List ℕ) → fault t ≡ 0 → 2 * records t ≤ length p → exchangedPlacements t (store (draw (tree t)) p) ≡ store (transposed (draw (tree t))) p
-unfolding exchangedPlacements
-turned-stored t p ok long = same-points _ _ (points-long (chain t) _ ∙ (store-length L p ∙ sym (store-length (transposed L) p))) (λ k. go k (member k (chain t)) refl)
-  where
-    L : Layout
-    L = draw (tree t)
+-- ---- several layouts
 
-    same-records : (k : ℕ) → times k L ≡ count k (nodes (tree t))
-    same-records k = ap (λ (T : Tree). count k (nodes T)) (promise (tree t) .same)
+pub width-turned : (Ls : List Layout) → widthOf (map transposed Ls) ≡ heightOf Ls
+unfolding widthOf heightOf
+width-turned [] = refl
+width-turned (L ∷ Ls) = rw (width-transposed L, width-turned Ls)
 
-    go : (k : ℕ) (b : Bool) → member k (chain t) ≡ b → pointAt (each exchangePoint (chain t) (store L p)) k ≡ pointAt (store (transposed L) p) k
-    go k true e =
-        let c = T-true (member k (chain t)) .1 e in
-        let room : 2 * k + 1 < length p = omega (arith, long, chain-within t ok k c .1) in
-        let some = member-count k (nodes (tree t)) .0 (nodes-chain t ok k .1 c) in
-        points-exchanged (chain t) (store L p) k (chain-distinct t ok) c (rw (store-length L p) room) ∙ sym (store-turned k L p p refl room (λ z. absurd (omega (arith, some, z, same-records k))))
-    go k false e =
-        let n = T-false (member k (chain t)) .1 e in
-        let none : times k L ≡ 0 = same-records k ∙ member-none k (nodes (tree t)) .0 (T-false (member k (nodes (tree t))) .0 (λ h. n (nodes-chain t ok k .0 h))) in
-        points-other (chain t) (store L p) k n ∙ (kept-point L p k none ∙ sym (kept-point (transposed L) p k (ap (λ (T : Tree). count k (nodes T)) (shape-transposed L) ∙ none)))
+pub height-turned : (Ls : List Layout) → heightOf (map transposed Ls) ≡ widthOf Ls
+unfolding widthOf heightOf
+height-turned [] = refl
+height-turned (L ∷ Ls) = rw (height-transposed L, height-turned Ls)
+
+pub times-turned : (k : ℕ) (Ls : List Layout) → timesIn k (map transposed Ls) ≡ timesIn k Ls
+unfolding timesIn
+times-turned k [] = refl
+times-turned k (L ∷ Ls) = omega (arith, ap (λ (T : Tree). count k (nodes T)) (shape-transposed L), times-turned k Ls)
+
+all-turned : (k : ℕ) (Ls : List Layout) (p q : List ℕ) → length q ≡ length p → 2 * k + 1 < length p → (timesIn k Ls ≡ 0 → Turned k p q) → Turned k (storeAll Ls p) (storeAll (map transposed Ls) q)
+unfolding storeAll timesIn
+all-turned k [] p q long room h = h refl
+all-turned k (L ∷ Ls) p q long room h =
+    all-turned k Ls (store L p) (store (transposed L) q) (store-length (transposed L) q ∙ (long ∙ sym (store-length L p))) (rw (store-length L p) room)
+    (λ none. store-turned k L p q long room (λ z. h (omega arith)))
+
+-- The drawings of an accepted table: their placements exchanged are those of the drawings transposed.
+module _ (t p : List ℕ) (ok : fault t ≡ 0) (long : 2 * records t ≤ length p) where
+  abbrev layouts : List Layout
+  layouts = drawTrees (trees t)
+
+  turned-at : (k : ℕ) (b : Bool) → member k (chain t) ≡ b → pointAt (each exchangePoint (chain t) (storeAll layouts p)) k ≡ pointAt (storeAll (map transposed layouts) p) k
+  turned-at k true e =
+      let c = T-true (member k (chain t)) .1 e in
+      let room : 2 * k + 1 < length p = omega (arith, long, chain-within t ok k c .1) in
+      let some = member-count k (nodesOf (trees t)) .0 (nodes-chain t ok k .1 c) in
+      points-exchanged (chain t) (storeAll layouts p) k (chain-distinct t ok) c (rw (stored-length layouts p) room) ∙
+      sym (all-turned k layouts p p refl room (λ z. absurd (omega (arith, some, z, times-trees k 0 (trees t)))))
+  turned-at k false e =
+      let n = T-false (member k (chain t)) .1 e in
+      let none : timesIn k layouts ≡ 0 = times-trees k 0 (trees t) ∙ member-none k (nodesOf (trees t)) .0 (T-false (member k (nodesOf (trees t))) .0 (λ h. n (nodes-chain t ok k .0 h))) in
+      points-other (chain t) (storeAll layouts p) k n ∙ (stored-point-kept layouts p k none ∙ sym (stored-point-kept (map transposed layouts) p k (times-turned k layouts ∙ none)))
+
+  pub turned-stored : exchangedPlacements t (storeAll layouts p) ≡ storeAll (map transposed layouts) p
+  unfolding exchangedPlacements
+  turned-stored = same-points _ _ (points-long (chain t) _ ∙ (stored-length layouts p ∙ sym (stored-length (map transposed layouts) p))) (λ k. turned-at k (member k (chain t)) refl)

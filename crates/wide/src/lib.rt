@@ -1,4 +1,4 @@
-// The wide plan: the mirror image of the tree drawn, then column and row of each node exchanged.
+// The wide plan: the mirror images of the trees drawn, then column and row of each node exchanged.
 use drawing::Plan;
 use drawing::plan_of;
 use exchange::exchange_placements;
@@ -9,10 +9,11 @@ ghost use mathlib.Core.Path.{_≡_};
 ghost use Prim.Native.Nat.{_*_, _≤_};
 ghost use lib.ListN.{length, take};
 ghost use Rattle.table.specs.Table.{records, rootOf, chain as chainOf, Chained};
-ghost use Rattle.table.specs.Tree.{tree};
+ghost use Rattle.table.specs.Trees.{trees};
 ghost use Rattle.table.specs.Refusal.{fault};
 ghost use Rattle.measure.specs.inner.Sized.{Sized};
-ghost use Rattle.drawing.specs.Answer.{store};
+ghost use Rattle.drawing.specs.Answer.{storeAll};
+ghost use Rattle.drawing.specs.inner.Placing.{Led};
 ghost use Rattle.wide.specs.Wide.{drawWide, said, wideOf, widePlacedIn};
 ghost use Rattle.wide.specs.inner.Planned.{widePlanOf};
 
@@ -26,6 +27,7 @@ pub enum Wide {
 fn wide_plan(
     table: &[u8],
     chain: &[u16],
+    order: &[u16],
     sizes: &[u16],
     placements: &mut [u16],
     nodes: usize,
@@ -33,18 +35,26 @@ fn wide_plan(
     requires { ⌜ fault (now table) ≡ 0 ⌝ }
     requires { ⌜ Chained (now table) (rootOf (now table)) ⌝ }
     requires { ⌜ Sized (now table) (now sizes) ⌝ }
+    requires { ⌜ Led (now table) (now order) ⌝ }
     requires { ⌜ (length (now chain) ≡ 4097) × (take nodes (now chain) ≡ chainOf (now table)) ⌝ }
     requires { ⌜ 2 * records (now table) ≤ length (now placements) ⌝ }
     requires { ⌜ nodes ≡ length (chainOf (now table)) ⌝ }
     ensures { λ r. ⌜ (r ≡ widePlanOf (now (table .entry)))
-        × (now (placements .exit) ≡ store (drawWide (tree (now (table .entry)))) (now (placements .entry))) ⌝ }
+        × (now (placements .exit) ≡ storeAll (drawWide (trees (now (table .entry)))) (now (placements .entry))) ⌝ }
 {
     let bytes = table.len();
     let mut mirrored = [0u8; 32776];
     copy(table, &mut mirrored);
     exchange_table(&mut mirrored[..bytes], chain, nodes);
     let mut roles = [0u16; 4097];
-    let plan = plan_of(&mirrored[..bytes], sizes, &mut roles, placements, nodes);
+    let plan = plan_of(
+        &mirrored[..bytes],
+        sizes,
+        order,
+        &mut roles,
+        placements,
+        nodes,
+    );
     exchange_placements(placements, chain, nodes);
     Plan {
         nodes: plan.nodes,
@@ -59,14 +69,15 @@ pub fn draw_wide(table: &[u8], placements: &mut [u16]) -> Wide
         × (now (placements .exit) ≡ widePlacedIn (now (table .entry)) (now (placements .entry))) ⌝ }
 {
     let mut chain = [0u16; 4097];
+    let mut order = [0u16; 4097];
     let mut sizes = [0u16; 4097];
-    let reading = read(table, placements.len(), &mut chain, &mut sizes);
+    let reading = read(table, placements.len(), &mut chain, &mut order, &mut sizes);
     if reading.refusal != 0 {
         return Wide::Refused(reading.refusal);
     }
     if reading.nodes == 0 {
         return Wide::Planned(Plan::EMPTY);
     }
-    let plan = wide_plan(table, &chain, &sizes, placements, reading.nodes);
+    let plan = wide_plan(table, &chain, &order, &sizes, placements, reading.nodes);
     Wide::Planned(plan)
 }

@@ -4,19 +4,21 @@ use mathlib.Core.Path.{_≡_}
 use mathlib.Core.Bool.{Bool}
 use mathlib.Core.List.{List, [], _∷_}
 use Prim.Native.Nat.{ℕ, _+_, _*_, _≤_, _<_}
-use lib.ListN.{length}
+use lib.ListN.{length, getD}
 use Rattle.table.specs.Lists.{count}
 use Rattle.table.specs.Table.{Side, records}
 use Rattle.table.specs.Tree.{Tree, none, size, nodes, treeAt}
+use Rattle.table.specs.Trees.{roots, trees}
 use Rattle.table.specs.Refusal.{fault}
 use Rattle.layout.specs.Spine.{SpineNode, Role, knee, ordinary, switch}
 use Rattle.layout.specs.Drawing.{Rest}
+use Rattle.layout.specs.Trees.{drawTrees, widthOf, heightOf}
 use Rattle.layout.specs.inner.Held.{inwards, hungOn, heightOn, widthOn, spineOn, lay, bottom, Inside, Rooms}
 use Rattle.measure.specs.inner.Sized.{Named, Sized}
 use Rattle.measure.specs.Chosen.{sideOf}
 use Rattle.measure.specs.inner.Prepared.{Prepared, Along}
 use Rattle.drawing.specs.declared.place.Walk.{Walk}
-use Rattle.drawing.specs.Answer.{store}
+use Rattle.drawing.specs.Answer.{store, storeAll}
 
 -- The lists are those of an accepted table, and the placements are enough.
 pub record Given (t sizes roles widest p : List ℕ) : Type 0 where
@@ -101,3 +103,16 @@ pub record Stepped (t roles widest : List ℕ) (o : Role) (w : Walk) (p : List �
   pub as-deep : rowBelow t role w′ ≡ rowBelow t o w
   pub fewer : unplaced t w′ < unplaced t w
   pub shorter : size (treeAt t (w′ .at)) < size (treeAt t (w .at))
+
+-- ---- several trees
+
+-- The roots lead the order.
+pub record Led (t order : List ℕ) : Type 0 where
+  pub long : length (roots t) ≤ length order
+  pub led : (i : ℕ) → i < length (roots t) → getD order i 0 ≡ getD (roots t) i 0
+
+-- All trees are drawn: how wide they are, the first row below, and the placements.
+pub record TreesDrawn (t p : List ℕ) (wide below : ℕ) (p′ : List ℕ) : Type 0 where
+  pub width : wide ≡ widthOf (drawTrees (trees t))
+  pub height : below ≡ heightOf (drawTrees (trees t))
+  pub stored : p′ ≡ storeAll (drawTrees (trees t)) p

@@ -4,7 +4,7 @@ use mathlib.Core.Logic.{_≢_}
 use mathlib.Core.Bool.{cond}
 use mathlib.Core.List.{List, [], _∷_}
 use Prim.Native.Nat.{ℕ, _+_, _*_, _≤_, _<_}
-use lib.Dec.{eqb}
+use lib.Dec.{T, eqb}
 use lib.ListN.{length, getD}
 use Rattle.segment.specs.declared.Point.{Point}
 use Rattle.segment.specs.declared.meeting.Meeting.{Meeting}
@@ -13,7 +13,9 @@ use Rattle.segment.specs.Segment.{Clash}
 use Rattle.segment.specs.Meeting.{Crosses}
 use Rattle.sort.specs.inner.Order.{Below, Pairs}
 use Rattle.sweep.specs.inner.Line.{startOf, endOf, last}
-use Rattle.table.specs.Table.{Side, records, leftOf, rightOf, linkOf, rootOf, Line}
+use Rattle.table.specs.Lists.{member}
+use Rattle.table.specs.Table.{Side, records, leftOf, rightOf, linkOf, Line}
+use Rattle.table.specs.Trees.{roots}
 use Rattle.verdict.specs.Points.{pointOf}
 use Rattle.verdict.specs.Conditions.{InOrder}
 use Rattle.verdict.specs.Verdict.{Condition, numbered}
@@ -22,10 +24,10 @@ use Rattle.verdict.specs.Verdict.{Condition, numbered}
 abbrev pub nodeAt : List ℕ → List ℕ → ℕ → Point
 nodeAt p nodes i = pointOf p (getD nodes i 0)
 
--- up has the parent of each child, and 0 for the root.
+-- up has the parent of each child, and 0 for the roots.
 pub record Parents (t up : List ℕ) : Type 0 where
   pub parent : (k c : ℕ) (s : Side) → Line t k s c → getD up c 0 ≡ k
-  pub root : rootOf t ≢ 0 → getD up (rootOf t) 0 ≡ 0
+  pub root : (k : ℕ) → T (member k (roots t)) → k ≢ 0 → getD up k 0 ≡ 0
 
 -- What is above c: its parent, or c itself where there is none.
 abbrev pub above : List ℕ → ℕ → ℕ
@@ -43,11 +45,11 @@ pub record LinesFromAbove (p nodes : List ℕ) (n : ℕ) (up l : List ℕ) : Typ
   pub starts : (i : ℕ) → i < n → startOf (getD l i 0) ≡ pointOf p (above up (getD nodes i 0))
   pub ends : (i : ℕ) → i < n → endOf (getD l i 0) ≡ nodeAt p nodes i
 
--- The first n lines go to the first n nodes of a list: to a child from its parent, to the root from itself.
+-- The first n lines go to the first n nodes of a list: to a child from its parent, to a root from itself.
 pub record LinesOf (t p : List ℕ) (n : ℕ) (nodes l : List ℕ) : Type 0 where
   pub ends : (i : ℕ) → i < n → endOf (getD l i 0) ≡ nodeAt p nodes i
   pub from-parent : (i k : ℕ) (s : Side) → i < n → Line t k s (getD nodes i 0) → startOf (getD l i 0) ≡ pointOf p k
-  pub from-itself : (i : ℕ) → i < n → getD nodes i 0 ≡ rootOf t → startOf (getD l i 0) ≡ nodeAt p nodes i
+  pub from-itself : (i : ℕ) → i < n → T (member (getD nodes i 0) (roots t)) → startOf (getD l i 0) ≡ nodeAt p nodes i
 
 -- 22, of one line: it ends above its start
 abbrev pub Rises : ℕ → Type 0

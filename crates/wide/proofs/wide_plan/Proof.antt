@@ -12,13 +12,13 @@ slice-aggregate-copy : tie.Need-slice-aggregate-copy
 slice-aggregate-copy c = search needs
 
 copy-requires : tie.Need-copy-requires
-copy-requires c κs = let s = c .before .before .before .before .before in omega (arith, records-bounds _ (s .pre .0))
+copy-requires c κs = let s = c .before .before .before .before .before .before in omega (arith, records-bounds _ (s .pre .0))
 
 -- The copy has room for the table's bytes.
 array-borrow-prefix-mirrored : tie.Need-array-borrow-prefix-mirrored
 array-borrow-prefix-mirrored c =
     let copied = c .before in
-    let s = copied .before .before .before .before .before .before in
+    let s = copied .before .before .before .before .before .before .before in
     omega (arith, copied .copy .kept .1 .0, records-bounds _ (s .pre .0))
 
 slice-aggregate-exchange-table : tie.Need-slice-aggregate-exchange-table
@@ -27,8 +27,8 @@ slice-aggregate-exchange-table c = sym (length-take-le _ _ (array-borrow-prefix-
 exchange-table-requires : tie.Need-exchange-table-requires
 exchange-table-requires c κs =
     let copied = c .before .before in
-    let s = copied .before .before .before .before .before .before in
-    (listed-few _ _ _ (s .pre .0) (s .pre .1 .1 .1 .0 .0) (s .pre .1 .1 .1 .1 .1), listed-within _ _ _ (s .pre .0) (copied-front _ _ _ (copied .copy .ensures)) (s .pre .1 .1 .1 .0 .1))
+    let s = copied .before .before .before .before .before .before .before in
+    (listed-few _ _ _ (s .pre .0) (s .pre .1 .1 .1 .1 .0 .0) (s .pre .1 .1 .1 .1 .1 .1), listed-within _ _ _ (s .pre .0) (copied-front _ _ _ (copied .copy .ensures)) (s .pre .1 .1 .1 .1 .0 .1))
 
 array-share-prefix-mirrored : tie.Need-array-share-prefix-mirrored
 array-share-prefix-mirrored c =
@@ -45,15 +45,15 @@ plan-of-requires : tie.Need-plan-of-requires
 plan-of-requires c κs =
     let turned = c .before .before .before .before in
     let copied = turned .before .before .before in
-    let s = copied .before .before .before .before .before .before in
-    let e = mirrored-copy _ _ _ _ (copied-front _ _ _ (copied .copy .ensures)) (s .pre .1 .1 .1 .0 .1) (turned .exchange-table .ensures) in
-    mirrored-asked _ _ _ _ _ _ (s .pre .0) e (s .pre .1 .0) (s .pre .1 .1 .0) refl (s .pre .1 .1 .1 .1 .0) (s .pre .1 .1 .1 .1 .1)
+    let s = copied .before .before .before .before .before .before .before in
+    let e = mirrored-copy _ _ _ _ (copied-front _ _ _ (copied .copy .ensures)) (s .pre .1 .1 .1 .1 .0 .1) (turned .exchange-table .ensures) in
+    mirrored-asked _ _ _ _ _ _ _ (s .pre .0) e (s .pre .1 .0) (s .pre .1 .1 .0) (s .pre .1 .1 .1 .0) refl (s .pre .1 .1 .1 .1 .1 .0) (s .pre .1 .1 .1 .1 .1 .1)
 
 exchange-placements-requires : tie.Need-exchange-placements-requires
 exchange-placements-requires c κs =
     let drawn = c .before .before .before .before in
-    let s = drawn .before .before .before .before .before .before .before .before .before .before .before .before .before .before in
-    (listed-few _ _ _ (s .pre .0) (s .pre .1 .1 .1 .0 .0) (s .pre .1 .1 .1 .1 .1), listed-room _ _ _ _ (s .pre .0) (s .pre .1 .1 .1 .1 .0) (drawn .plan-of .kept .1 .1 .1 .0) (s .pre .1 .1 .1 .0 .1))
+    let s = drawn .before .before .before .before .before .before .before .before .before .before .before .before .before .before .before in
+    (listed-few _ _ _ (s .pre .0) (s .pre .1 .1 .1 .1 .0 .0) (s .pre .1 .1 .1 .1 .1 .1), listed-room _ _ _ _ (s .pre .0) (s .pre .1 .1 .1 .1 .1 .0) (drawn .plan-of .kept .1 .1 .1 .1 .0) (s .pre .1 .1 .1 .1 .0 .1))
 
 same-length : tie.Need-same-length
 same-length c = search needs
@@ -63,9 +63,9 @@ returns c =
     let drawn = c .before .before .before .before .before .before .before in
     let turned = drawn .before .before .before .before .before in
     let copied = turned .before .before .before in
-    let s = copied .before .before .before .before .before .before in
-    let e = mirrored-copy _ _ _ _ (copied-front _ _ _ (copied .copy .ensures)) (s .pre .1 .1 .1 .0 .1) (turned .exchange-table .ensures) in
-    wide-planned _ _ _ _ _ _ _ (s .pre .0) (s .pre .1 .1 .1 .1 .0) e (s .pre .1 .1 .1 .0 .1) (drawn .plan-of .ensures) (c .before .before .exchange-placements .ensures)
+    let s = copied .before .before .before .before .before .before .before in
+    let e = mirrored-copy _ _ _ _ (copied-front _ _ _ (copied .copy .ensures)) (s .pre .1 .1 .1 .1 .0 .1) (turned .exchange-table .ensures) in
+    wide-planned _ _ _ _ _ _ _ (s .pre .0) (s .pre .1 .1 .1 .1 .1 .0) e (s .pre .1 .1 .1 .1 .0 .1) (drawn .plan-of .ensures) (c .before .before .exchange-placements .ensures)
 
 pub wide-plan-spec : {M : Type 1} → statement M
 wide-plan-spec =
