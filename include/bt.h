@@ -37,8 +37,9 @@ extern "C" {
 #endif
 
 /* Draws the trees of a table one under the other, each with its root at column 0 in the row under the tree before; writes the column and the row of every node on the
- * chain, and no other entry. The width is at most bt_allowed_width of the nodes of all trees, and the height at most their number. Answers the refusal in bits 0 to 15, the number of nodes
- * in bits 16 to 31, the width in bits 32 to 47, the height in bits 48 to 63. Refuses with 6. */
+ * chain, and no other entry. The width is at most bt_allowed_width of the nodes of all trees, and the height at most their number; every row below the height holds a node. The
+ * branches that hang from one spine, which goes from the root of a tree or of a branch always to the larger subtree, have no row in common, and the nodes of the spine are outside
+ * their rectangles. Answers the refusal in bits 0 to 15, the number of nodes in bits 16 to 31, the width in bits 32 to 47, the height in bits 48 to 63. Refuses with 6. */
 uint64_t bt_draw(const uint8_t *table, size_t table_len, uint16_t *placements, size_t placements_len);
 
 /* Draws the trees of a table for a sheet that is wide and low: their mirror images, left and right of every node exchanged, as bt_draw draws them, with column and row of

@@ -11,11 +11,13 @@ here = os.path.dirname(os.path.abspath(__file__))
 sys.dont_write_bytecode = True
 sys.path.insert(0, os.path.join(here, 'reference'))
 import racksheet
+sys.path.insert(0, here)
+import rows
 
 UPTO = int(open(os.path.join(here, 'upto')).read())     # requests 1 to UPTO of document 02 are in force
 folder, plan = sys.argv[1:]
 data = open(os.path.join(folder, 'share'), 'rb').read()
-at = calls = draws = runs = differences = 0
+at = calls = draws = runs = ruled = differences = 0
 
 
 def take(n):
@@ -64,6 +66,11 @@ while at < len(data):
         wanted = refusal | n << 16 | width << 32 | height << 48
         if (answer, after) != (wanted, placed):
             save(draw.__name__, table, before, 'ours %#x, reference %#x' % (answer, wanted))
+        if which == b'd' and answer == wanted and refusal == 0:     # document 02, Paper 9, of the placements as our drawer left them
+            ruled += 1
+            fault = rows.broken(table, after, answer >> 48)
+            if fault:
+                save('rows', table, before, fault)
         draws += which == b'd'
         if which == b'd' and draws % 10 == 1:
             run(table)
@@ -109,5 +116,5 @@ while at < len(data):
             save('check', table, before, 'ours %d, reference %d' % (answer, wanted))
 for size in (0, 1, 8, 32775, 32776, 32777, 32784, 65536, 100000, 1000000):
     run(bytes(size))
-print('%d calls and %d runs of the program beside racksheet.py, %d differences' % (calls, runs, differences))
+print('%d calls and %d runs of the program beside racksheet.py, %d sheets held to "no gaps, no shared rows", %d differences' % (calls, runs, ruled, differences))
 sys.exit(differences != 0)

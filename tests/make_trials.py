@@ -6,7 +6,7 @@ hangs by halves (halves.py), pairs of lines and sheets whose lines cross or touc
 parts, and each of the sheets, tables, pairs of lines, free chains and series of calls that were made by hand, have names, which are printed.
 Each table that is drawn is drawn wide as well; each that is refused, and the drawing of each larger random tree, is asked for strokes; and each that is refused for its
 bytes is asked to hang, to cut, and for the halves of a hang.
-What must be printed comes from the reference program alone (reference/racksheet.py), never from our code.
+What must be printed comes from the reference program alone (reference/racksheet.py), never from our code. Each drawing is held to Paper 9 of document 02 as well (rows.py).
 The form of the cases is told at the head of crates/trials/src/main.rt.
 """
 import os
@@ -24,6 +24,7 @@ import forests
 import halves
 import hang_cut
 import racksheet
+import rows
 import slips
 import trees
 from crossings import FIVE, FOUR, PATH, TOP, TWO
@@ -99,6 +100,8 @@ class Trials:
         refusal, n, width, height, self.places = racksheet.draw(self.bytes, self.places, UPTO)
         self.lines.append('draw %d %d %d %d' % (refusal, n, width, height))
         self.placed()
+        fault = refusal == 0 and rows.broken(self.bytes, self.places, height)
+        assert not fault, fault     # document 02, Paper 9
         return refusal
 
     def check(self):

@@ -7,16 +7,15 @@ use Prim.Native.Nat.{ℕ, _+_, _*_, _-_, _≤_, _<_, max}
 use native.Mathlib.Omega.{arith}
 use lib.ListN.{length, getD}
 use Rattle.table.specs.Lists.{count}
-use Rattle.table.specs.Table.{Side, left, right, leftOf, rightOf, Chained}
+use Rattle.table.specs.Table.{Side, leftOf, rightOf, Chained}
 use Rattle.table.specs.Tree.{Tree, none, node, size, nodes, treeAt}
 use Rattle.table.specs.Refusal.{fault}
 use Rattle.table.proofs.Lists.{same}
-use Rattle.table.proofs.Chain.{count-node}
 use Rattle.table.proofs.Accepted.{tree-none, tree-unfolds, records-bounds, chain-within}
 use Rattle.layout.specs.Spine.{SpineNode, hangs, Role, knee, ordinary, switch, opposite, handAfter}
 use Rattle.layout.specs.inner.Entries.{withPoint}
 use Rattle.layout.specs.inner.Held.{inwards, hungOn, heightOn, spineOn, roleNext, far, bottom, Inside, GoesOn}
-use Rattle.layout.proofs.Spines.{over, spineTree, spine-either, tree-spine}
+use Rattle.layout.proofs.Spines.{over, spineTree, spine-either, tree-spine, count-over}
 use Rattle.layout.proofs.Held.{inside-less}
 use Rattle.measure.specs.inner.Sized.{Named}
 use Rattle.measure.specs.Chosen.{sideOf, codeOf}
@@ -31,11 +30,6 @@ use Rattle.drawing.specs.inner.Placing.{Given, Hanging, Hung, finished, 
 use Rattle.drawing.proofs.Shapes.{Disjoint}
 use Rattle.drawing.proofs.Columns.{inside-edge, inside-count}
 use Rattle.drawing.proofs.Onward.{knee-far, knee-near, ordinary-on, switch-over, bottom-far, bottom-near, bottom-over, along-role, along-hung, along-next, goes-on, at-knee-room, at-ordinary-room, at-switch-width, at-switch-room, ready-far, ready-near, ready-ordinary, ready-switch, rows-far, rows-knee, rows-ordinary, rows-switch}
-
-count-over : (i k : ℕ) (s : Side) (S R : Tree) → count i (nodes (over (hangs k s S) R)) ≡ same i k + (count i (nodes S) + count i (nodes R))
-unfolding over
-count-over i k left S R = count-node i k S R
-count-over i k right S R = omega (arith, count-node i k R S)
 
 pub size-none : (t : List ℕ) → size (treeAt t 0) ≡ 0
 unfolding size

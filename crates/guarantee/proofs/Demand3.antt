@@ -6,7 +6,7 @@ use Prim.Native.Nat.{ℕ, zero, suc, _+_, _*_, _≤_, _<_}
 use native.Mathlib.Omega.{arith}
 use lib.ListN.{length}
 use Rattle.segment.proofs.CrossProduct.{cross-negative}
-use Rattle.table.specs.Table.{records, chain}
+use Rattle.table.specs.Table.{chain}
 use Rattle.table.specs.Tree.{Tree, none, size}
 use Rattle.table.specs.Trees.{trees, nodesOf}
 use Rattle.table.specs.Refusal.{fault, refusal}
@@ -16,10 +16,10 @@ use Rattle.layout.specs.Layout.{width, shift}
 use Rattle.layout.specs.Drawing.{drawing, draw}
 use Rattle.layout.specs.Trees.{drawFrom, drawTrees, widthOf}
 use Rattle.layout.proofs.Stacked.{AgreesAll, CheckedAll, trees-checked, trees-narrow, trees-short}
-use Rattle.drawing.specs.Answer.{storeAll, planOf, drawnOf}
+use Rattle.drawing.specs.Answer.{planOf, drawnOf, placedIn}
 use Rattle.drawing.specs.declared.Drawn.{Drawn}
-use Rattle.drawing.proofs.Elsewhere.{drawn-chained}
-use Rattle.drawing.proofs.StoredTrees.{timesIn, times-trees, stored-length, stored-points}
+use Rattle.drawing.proofs.Elsewhere.{as-many, drawn-chained}
+use Rattle.drawing.proofs.StoredTrees.{timesIn, times-trees, stored-points}
 use Rattle.drawing.proofs.Whole.{no-trees}
 use Rattle.drawing.proofs.Answered.{Accepted, accepted, drawn-refusal}
 use Rattle.verdict.specs.Points.{pointOf}
@@ -54,14 +54,18 @@ module _ (t p : List ℕ) (ok : fault t ≡ 0) (z : CheckedAll (trees t) (pointO
 
 -- ---- the points of the drawings are read back
 
-agrees : (t p : List ℕ) → fault t ≡ 0 → 2 * records t ≤ length p → AgreesAll (pointOf (storeAll (drawTrees (trees t)) p)) (drawTrees (trees t))
-agrees t p ok long = stored-points (drawTrees (trees t)) p once room
+-- The placements as the drawer left them give each node of the drawings its point.
+pub agrees : (t p : List ℕ) → refusal t (length p) ≡ 0 → AgreesAll (pointOf (placedIn t p)) (drawTrees (trees t))
+agrees t p none-refused = subst (λ (q : List ℕ). AgreesAll (pointOf q) (drawTrees (trees t))) (sym (accepted t p none-refused .after)) (stored-points (drawTrees (trees t)) p once room)
   where
+    ok : fault t ≡ 0
+    ok = refusal-none t (length p) .0 none-refused .0
+
     once : (k : ℕ) → timesIn k (drawTrees (trees t)) ≤ 1
     once k = omega (arith, times-trees k 0 (trees t), repeats-count (nodesOf (trees t)) .0 (nodes-distinct t ok) k)
 
     room : (k : ℕ) → 1 ≤ timesIn k (drawTrees (trees t)) → 2 * k + 1 < length p
-    room k h = omega (arith, long, chain-within t ok k (drawn-chained t ok k h) .1)
+    room k h = omega (arith, refusal-none t (length p) .0 none-refused .1, chain-within t ok k (drawn-chained t ok k h) .1)
 
 -- ---- width
 
@@ -81,7 +85,7 @@ narrow t ok = go (length (chain t)) refl (omega (arith, chain-length t ok, recor
 pub kept : (t p : List ℕ) → drawnOf t p .refusal ≡ 0 → Kept t p
 unfolding planOf
 kept t p e = record {
-  good = subst (λ (q : List ℕ). Verdict t q 0) (sym (a .after)) stored-good;
+  good = left-good;
   narrow = subst (λ (d : Drawn). d .plan .width ≤ allowedWidth (length (chain t))) (sym (a .drawn)) (narrow t ok);
   short = subst (λ (d : Drawn). d .plan .height ≤ length (chain t)) (sym (a .drawn)) (omega (arith, trees-short (trees t) 0, nodes-length t ok));
 }
@@ -95,12 +99,6 @@ kept t p e = record {
     ok : fault t ≡ 0
     ok = refusal-none t (length p) .0 none-refused .0
 
-    long : 2 * records t ≤ length p
-    long = refusal-none t (length p) .0 none-refused .1
-
-    q : List ℕ
-    q = storeAll (drawTrees (trees t)) p
-
-    -- the check of the placements with the drawings stored
-    stored-good : Verdict t q 0
-    stored-good = inr (rw (stored-length (drawTrees (trees t)) p) none-refused, good t q ok (trees-checked (trees t) 0 (pointOf q) (agrees t p ok long)))
+    -- the check of the placements as the drawer left them
+    left-good : Verdict t (placedIn t p) 0
+    left-good = inr (rw (as-many t p) none-refused, good t (placedIn t p) ok (trees-checked (trees t) 0 (pointOf (placedIn t p)) (agrees t p none-refused)))

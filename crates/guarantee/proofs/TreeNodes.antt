@@ -44,7 +44,7 @@ sub-edge s (in-left h) r = child-left (sub-edge s h r)
 sub-edge s (in-right h) r = child-right (sub-edge s h r)
 
 -- What holds of the tree at one of several records holds of one of their trees.
-among-at : (P : Tree → Type 0) (f : ℕ → Tree) (k : ℕ) (ks : List ℕ) → P (f k) → T (member k ks) → Among P (map f ks)
+pub among-at : (P : Tree → Type 0) (f : ℕ → Tree) (k : ℕ) (ks : List ℕ) → P (f k) → T (member k ks) → Among P (map f ks)
 unfolding member
 among-at P f k [] h m = absurd m
 among-at P f k (n ∷ ns) h m =

@@ -1,264 +1,190 @@
--- For request 9 (no gaps, no shared rows), with ApartAlong and EverySpine; nothing else cites it yet.
--- Of one spine: hung drawings share no row, and spine nodes are outside their rectangles (`SpineApart`). How that is kept when a spine node is put before the rest (`spread-join`), and
--- when the whole is held by an edge (`spread-put`).
-use mathlib.Core.Path.{_≡_, refl, ap, sym, subst, _∙_}
-use mathlib.Core.List.{List, [], _∷_, map}
-use Prim.Native.Nat.{ℕ, zero, suc, _+_, _-_, _≤_, _<_}
+-- No shared rows along one spine (`spread`): hung drawings share no row, and spine nodes are outside their rectangles, by the rows and columns that the steps give, wherever a plan shows the
+-- spine. Along the spine, from its end to its start; rests on the steps and on Shown, and not on the drawing being untangled.
+use mathlib.Core.Path.{_≡_, refl, sym}
+use mathlib.Core.List.{List, [], _∷_}
+use Prim.Native.Nat.{ℕ, _+_, _-_, _≤_, _<_, max}
 use native.Mathlib.Omega.{arith}
 use Rattle.segment.specs.declared.Point.{Point}
 use Rattle.segment.specs.Segment.{at}
 use Rattle.table.specs.Table.{Side, left, right}
-use Rattle.layout.specs.Layout.{Layout, blank, placed, width, height, shift, flip}
-use Rattle.layout.specs.Spine.{SpineNode, hangs, opposite}
-use Rattle.layout.specs.Drawing.{join}
-use Rattle.layout.specs.inner.Held.{inwards, put, Fit}
-use Rattle.layout.proofs.Clean.{onSide, HasRoot, a-root, Node, root, below, top, point}
-use Rattle.layout.proofs.Points.{PointOf, pointOn, point-below, InWindow}
-use Rattle.layout.proofs.Motions.{shift-within, shift-none}
-use Rattle.layout.proofs.Sides.{sideOn, held, put-held}
+use Rattle.layout.specs.Layout.{Layout, width, height}
+use Rattle.layout.specs.Spine.{Role, knee, ordinary, switch, opposite}
+use Rattle.layout.specs.Drawing.{Part, part, widest, join, place}
+use Rattle.layout.specs.Rectangle.{OccupiesRow, InRectangle}
+use Rattle.layout.proofs.Points.{rooted-high}
+use Rattle.layout.proofs.Rows.{shape}
+use Rattle.layout.proofs.Along.{Stretch, turn, run, Proper, ended, a-knee, an-ordinary, a-switch, Reached}
+use Rattle.layout.proofs.Heights.{PendingRow}
+use Rattle.layout.proofs.Spines.{place-wide}
+use Rattle.layout.proofs.Shown.{less, more, Moved, moved-back, Shown, shown-flip, join-shown, hung-rows, in-hung}
 
--- ---- the law
+-- ---- the parts of a spine
 
--- The side of a spine node's child off the spine.
-abbrev pub sideOff : SpineNode → Side
-sideOff (hangs k s t) = s
+-- From the spine node k hangs what is drawn as D.
+pub data PartOf (k : ℕ) (D : Layout) : List Part → Type 0 where
+  first-part : {o : Role} {s : Side} {ps : List Part} → PartOf k D (part o k s D ∷ ps)
+  later-part : {q : Part} {ps : List Part} → PartOf k D ps → PartOf k D (q ∷ ps)
 
--- What is drawn on a side of the root.
-unfoldable pub branch : Side → Layout → Layout
-branch s blank = blank
-branch s (placed k P a b) = onSide s a b
+-- The point of a spine node, for which A holds.
+pub record NodeAt (s : Side) (a b u : ℕ) (A : Point → Type 0) (Q : Point) : Type 0 where
+  pub P : Point
+  pub moved : Moved s a b u Q P
+  pub is : A P
 
--- Of a spine whose children off the spine are on the sides ss: what is drawn from its i-th node on, and the drawing that hangs from that node.
-unfoldable pub spineAt : List Side → ℕ → Layout → Layout
-spineAt ss zero L = L
-spineAt [] (suc i) L = blank
-spineAt (s ∷ ss) (suc i) L = spineAt ss i (branch (opposite s) L)
-
-unfoldable pub hungAt : List Side → ℕ → Layout → Layout
-hungAt [] i L = blank
-hungAt (s ∷ ss) zero L = branch s L
-hungAt (s ∷ ss) (suc i) L = hungAt ss i (branch (opposite s) L)
-
--- A drawing occupies the rows from its highest node's to its lowest node's: a node is in row x or above it, and one in row x or below it.
-pub record OccupiesRow (x : ℕ) (D : Layout) : Type 0 where
-  pub high : Node D
-  pub low : Node D
-  pub from : point high .row ≤ x
-  pub to : x ≤ point low .row
-
--- Q is in the rectangle of a drawing: in its rows, and likewise in its columns.
-pub record InRectangle (Q : Point) (D : Layout) : Type 0 where
-  pub rows : OccupiesRow (Q .row) D
-  pub leftmost : Node D
-  pub rightmost : Node D
-  pub from : point leftmost .column ≤ Q .column
-  pub to : Q .column ≤ point rightmost .column
-
-pub record SpineApart (ss : List Side) (L : Layout) : Type 0 where
-  -- "the drawings of its hung subtrees occupy rows that no other drawing of that spine occupies"
-  pub rows-apart : (x i j : ℕ) → OccupiesRow x (hungAt ss i L) → OccupiesRow x (hungAt ss j L) → i ≡ j
-  -- "spine boxes lie outside their rectangles"
-  pub spine-outside : (i j : ℕ) (h : HasRoot (spineAt ss i L)) → InRectangle (point (top h)) (hungAt ss j L) → ⊥
+-- The law, of the parts of a spine.
+pub record SpineApart (plan : ℕ → Point) (ps : List Part) : Type 0 where
+  pub apart : {k m x : ℕ} {D E : Layout} → PartOf k D ps → PartOf m E ps → OccupiesRow plan (shape D) x → OccupiesRow plan (shape E) x → k ≡ m
+  pub outside : {k m : ℕ} {D E : Layout} → PartOf k D ps → PartOf m E ps → InRectangle plan (shape E) (plan k) → ⊥
 
 -- The form in which the argument goes: also, A holds of all spine nodes, and R of all rows that hung drawings occupy.
-pub record Spread (A : Point → Type 0) (R : ℕ → Type 0) (ss : List Side) (L : Layout) : Type 0 where
-  pub apart : SpineApart ss L
-  pub node : (i : ℕ) (h : HasRoot (spineAt ss i L)) → A (point (top h))
-  pub hung : (i x : ℕ) → OccupiesRow x (hungAt ss i L) → R x
+pub record Spread (plan : ℕ → Point) (s : Side) (a b u : ℕ) (A : Point → Type 0) (R : ℕ → Type 0) (ps : List Part) : Type 0 where
+  pub law : SpineApart plan ps
+  pub node : {k : ℕ} {D : Layout} → PartOf k D ps → NodeAt s a b u A (plan k)
+  pub hung : {k x : ℕ} {D : Layout} → PartOf k D ps → OccupiesRow plan (shape D) x → R x
 
--- ---- columns
-
-pub narrow : {L : Layout} (n : Node L) → point n .column < width L
-unfolding width
-narrow root = omega arith
-narrow (below left n) = omega (arith, narrow n)
-narrow (below right n) = omega (arith, narrow n)
-
-narrow-branch : (s : Side) (L : Layout) → width (branch s L) ≤ width L
-unfolding branch width
-narrow-branch s blank = omega arith
-narrow-branch left (placed k P a b) = omega arith
-narrow-branch right (placed k P a b) = omega arith
-
-pub narrow-spine : (ss : List Side) (i : ℕ) (L : Layout) → width (spineAt ss i L) ≤ width L
-unfolding spineAt width
-narrow-spine ss zero L = omega arith
-narrow-spine [] (suc i) L = omega arith
-narrow-spine (s ∷ ss) (suc i) L = omega (arith, narrow-spine ss i (branch (opposite s) L), narrow-branch (opposite s) L)
-
-narrow-hung : (ss : List Side) (i : ℕ) (L : Layout) → width (hungAt ss i L) ≤ width L
-unfolding hungAt width
-narrow-hung [] i L = omega arith
-narrow-hung (s ∷ ss) zero L = narrow-branch s L
-narrow-hung (s ∷ ss) (suc i) L = omega (arith, narrow-hung ss i (branch (opposite s) L), narrow-branch (opposite s) L)
-
-pub no-row : {x : ℕ} → OccupiesRow x blank → ⊥
-unfolding width
-no-row o = omega (arith, narrow (o .high))
-
--- ---- a spine node at P, with the drawing D of what hangs from it and the layout N from the next spine node on
-
-pub each-hung : (C : ℕ → Layout → Type 0) (k : ℕ) (P : Point) (s : Side) (D N : Layout) (ss : List Side) → C 0 D → ((i : ℕ) → C (suc i) (hungAt ss i N)) →
-    (i : ℕ) → C i (hungAt (s ∷ ss) i (join k P s D N))
-unfolding hungAt branch join opposite
-each-hung C k P left D N ss d n zero = d
-each-hung C k P left D N ss d n (suc i) = n i
-each-hung C k P right D N ss d n zero = d
-each-hung C k P right D N ss d n (suc i) = n i
-
-each-node : (C : Point → Type 0) (k : ℕ) (P : Point) (s : Side) (D N : Layout) (ss : List Side) → C P → ((i : ℕ) (h : HasRoot (spineAt ss i N)) → C (point (top h))) →
-    (i : ℕ) (h : HasRoot (spineAt (s ∷ ss) i (join k P s D N))) → C (point (top h))
-unfolding spineAt branch join opposite
-each-node C k P left D N ss p n zero a-root = p
-each-node C k P left D N ss p n (suc i) h = n i h
-each-node C k P right D N ss p n zero a-root = p
-each-node C k P right D N ss p n (suc i) h = n i h
-
--- From A and R of N to A′ and R′ of the whole.
-pub record Leads (A A′ : Point → Type 0) (R R′ : ℕ → Type 0) (P : Point) (D : Layout) : Type 0 where
+-- A spine node at P from which D hangs, before the rest: from A and R of the rest to A′ and R′ of the whole.
+record Leads (plan : ℕ → Point) (s : Side) (a b u : ℕ) (A A′ : Point → Type 0) (R R′ : ℕ → Type 0) (P : Point) (D : Layout) : Type 0 where
   -- D is in rows of its own, the spine nodes after P are outside its rectangle, and P is in no row of a hung drawing.
-  pub alone : (x : ℕ) → OccupiesRow x D → R x → ⊥
-  pub outside : (Q : Point) → A Q → InRectangle Q D → ⊥
-  pub over : R′ (P .row) → ⊥
-  pub node : A′ P
-  pub nodes : (Q : Point) → A Q → A′ Q
-  pub row : (x : ℕ) → OccupiesRow x D → R′ x
-  pub rows : (x : ℕ) → R x → R′ x
+  alone : {x : ℕ} → OccupiesRow plan (shape D) x → R x → ⊥
+  clear : {Q Q′ : Point} → Moved s a b u Q′ Q → A Q → InRectangle plan (shape D) Q′ → ⊥
+  over : R′ (u + P .row) → ⊥
+  first : A′ P
+  nodes : {Q : Point} → A Q → A′ Q
+  row : {x : ℕ} → OccupiesRow plan (shape D) x → R′ x
+  rows : {x : ℕ} → R x → R′ x
 
-pub spread-join : {A A′ : Point → Type 0} {R R′ : ℕ → Type 0} (k : ℕ) {P : Point} (s : Side) {D N : Layout} {ss : List Side} →
-    Leads A A′ R R′ P D → Spread A R ss N → Spread A′ R′ (s ∷ ss) (join k P s D N)
-spread-join {A} {A′} {R} {R′} k {P} s {D} {N} {ss} g n = record {
-  apart = record {
-    rows-apart = λ x. each-hung (λ i M. (j : ℕ) → OccupiesRow x M → OccupiesRow x (hungAt (s ∷ ss) j (join k P s D N)) → i ≡ j) k P s D N ss
-        (each-hung (λ j M. OccupiesRow x D → OccupiesRow x M → 0 ≡ j) k P s D N ss (λ y z. refl) (λ j y z. absurd (g .alone x y (n .hung j x z))))
-        (λ i. each-hung (λ j M. OccupiesRow x (hungAt ss i N) → OccupiesRow x M → suc i ≡ j) k P s D N ss (λ y z. absurd (g .alone x z (n .hung i x y))) (λ j y z. ap suc (n .apart .rows-apart x i j y z)));
-    spine-outside = λ i j. each-node (λ Q. InRectangle Q (hungAt (s ∷ ss) j (join k P s D N)) → ⊥) k P s D N ss (λ y. g .over (rows j (P .row) (y .rows)))
-        (λ i h. each-hung (λ j M. InRectangle (point (top h)) M → ⊥) k P s D N ss (g .outside _ (n .node i h)) (λ j y. n .apart .spine-outside i j h y) j) i;
-  };
-  node = each-node A′ k P s D N ss (g .node) (λ i h. g .nodes _ (n .node i h));
-  hung = rows;
+module _ {plan : ℕ → Point} {s : Side} {a b u : ℕ} {A A′ : Point → Type 0} {R R′ : ℕ → Type 0} {o : Role} {h : Side} {k : ℕ} {P : Point} {D : Layout} {ps : List Part}
+    (m : Moved s a b u (plan k) P) (g : Leads plan s a b u A A′ R R′ P D) (n : Spread plan s a b u A R ps) where
+  spread-hung : {j x : ℕ} {E : Layout} → PartOf j E (part o k h D ∷ ps) → OccupiesRow plan (shape E) x → R′ x
+  spread-hung first-part y = g .row y
+  spread-hung (later-part q) y = g .rows (n .hung q y)
+
+  spread-node : {j : ℕ} {E : Layout} → PartOf j E (part o k h D ∷ ps) → NodeAt s a b u A′ (plan j)
+  spread-node first-part = record { P = P; moved = m; is = g .first }
+  spread-node (later-part q) = let z = n .node q in record { P = z .P; moved = z .moved; is = g .nodes (z .is) }
+
+  spread-apart : {j l x : ℕ} {E F : Layout} → PartOf j E (part o k h D ∷ ps) → PartOf l F (part o k h D ∷ ps) → OccupiesRow plan (shape E) x → OccupiesRow plan (shape F) x → j ≡ l
+  spread-apart first-part first-part y z = refl
+  spread-apart first-part (later-part q) y z = absurd (g .alone y (n .hung q z))
+  spread-apart (later-part q) first-part y z = absurd (g .alone z (n .hung q y))
+  spread-apart (later-part q) (later-part r) y z = n .law .apart q r y z
+
+  spread-outside : {j l : ℕ} {E F : Layout} → PartOf j E (part o k h D ∷ ps) → PartOf l F (part o k h D ∷ ps) → InRectangle plan (shape F) (plan j) → ⊥
+  spread-outside first-part r z = g .over (rw (sym (m .in-row)) (spread-hung r (z .0)))
+  spread-outside (later-part q) first-part z = let v = n .node q in g .clear (v .moved) (v .is) z
+  spread-outside (later-part q) (later-part r) z = n .law .outside q r z
+
+  spread-join : Spread plan s a b u A′ R′ (part o k h D ∷ ps)
+  spread-join = record { law = record { apart = spread-apart; outside = spread-outside }; node = spread-node; hung = spread-hung }
+
+-- After a switch: the drawing of the other hand.
+spread-flip : {plan : ℕ → Point} (s : Side) (a b u e : ℕ) {A A′ : Point → Type 0} {R : ℕ → Type 0} {ps : List Part} → ((P : Point) → A P → P .column ≤ e) →
+    ((P : Point) → A P → A′ (at (e - P .column) (P .row))) → Spread plan (opposite s) (less s a e) (more s b e) u A R ps → Spread plan s a b u A′ R ps
+spread-flip {plan} s a b u e w f n = record {
+  law = n .law;
+  node = λ {k} q. let z = n .node q in record { P = at (e - z .P .column) (z .P .row); moved = moved-back s a b u e (plan k) (z .P) (w (z .P) (z .is)) (z .moved); is = f (z .P) (z .is) };
+  hung = n .hung;
 }
+
+-- ---- along a spine
+
+-- A spine node is in row r or below; down to row H there is only the first one, in column c.
+pub record From (W c H r : ℕ) (Q : Point) : Type 0 where
+  pub from : r ≤ Q .row
+  pub first : Q .row ≤ H → Q .column ≡ c
+  pub framed : Q .column ≤ W + 2
+
+-- From a knee on, all but the knee is below H, the lowest row used before. From another node on, all else is below it; in the rows kept for what is pending nothing
+-- hangs, and spine nodes are beyond the W columns that are kept.
+abbrev pub SpreadOn : (ℕ → Point) → Side → (a b u : ℕ) → Stretch → (W H r p v : ℕ) → List Part → Type 0
+SpreadOn plan s a b u turn W H r p v ps = Spread plan s a b u (From W 0 H r) (λ x. u + H < x) ps
+SpreadOn plan s a b u run W H r p v ps = Spread plan s a b u (λ Q. From W 1 r r Q × (PendingRow p v (Q .row) → W < Q .column)) (λ x. (u + r < x) × (PendingRow p (u + v) x → ⊥)) ps
+
+-- What is pending goes below H.
+pending-below : (W H r p : ℕ) {ps : List Part} → Proper W run ps → H ≤ r → H < place W H r p ps .under
+unfolding place
+pending-below W H r p ended le = omega arith
+pending-below W H r p (an-ordinary {D} {ps} g w b c) le = let i = pending-below W (r + height D) (r + max 1 (height D)) p c (omega arith) in omega arith
+pending-below W H r p (a-switch g w h c) le = omega arith
+
+spread-none : {plan : ℕ → Point} {s : Side} {a b u : ℕ} {A : Point → Type 0} {R : ℕ → Type 0} → Spread plan s a b u A R []
+spread-none = record { law = record { apart = λ q. absurd (no-part q); outside = λ q. absurd (no-part q) }; node = λ q. absurd (no-part q); hung = λ q. absurd (no-part q) }
   where
-    rows : (i x : ℕ) → OccupiesRow x (hungAt (s ∷ ss) i (join k P s D N)) → R′ x
-    rows = each-hung (λ i M. (x : ℕ) → OccupiesRow x M → R′ x) k P s D N ss (g .row) (λ i x y. g .rows x (n .hung i x y))
+    no-part : {k : ℕ} {D : Layout} → PartOf k D [] → ⊥
+    no-part q = elim q [ ]
 
--- ---- drawings at their places
+spread-end : (plan : ℕ → Point) (s : Side) (a b u : ℕ) (z : Stretch) (W H r p v : ℕ) → SpreadOn plan s a b u z W H r p v []
+spread-end plan s a b u turn W H r p v = spread-none
+spread-end plan s a b u run W H r p v = spread-none
 
-node-point : {L : Layout} (n : Node L) → PointOf 1 (point n .column) (point n .row) L
-node-point root = pointOn root (record { u = 1; v = 0; sum = refl; in-column = omega arith; in-row = omega arith })
-node-point (below s n) = point-below s (node-point n)
+-- What is placed from such a node on, wherever a plan shows it.
+abbrev pub Spreads : (W : ℕ) → Stretch → List Part → Type 0
+Spreads W z ps = (plan : ℕ → Point) (s : Side) (a b u H r p : ℕ) → Reached z H r → Shown plan s a b u (place W H r p ps .drawn) → SpreadOn plan s a b u z W H r p (place W H r p ps .under) ps
 
--- The rows and the rectangle of a drawing at its place.
-pub rows-shift : (e t : ℕ) {x : ℕ} (D : Layout) → OccupiesRow x (shift e t D) → (t ≤ x) × (x < t + height D)
-rows-shift e t D o =
-    let h = shift-within e t D (node-point (o .high)) in
-    let l = shift-within e t D (node-point (o .low)) in
-    (omega arith, omega arith)
+spread-ordinary : (W k : ℕ) (h : Side) (D : Layout) (ps : List Part) → Proper W run ps → Spreads W run ps → Spreads W run (part ordinary k h D ∷ ps)
+unfolding place
+spread-ordinary W k h D ps c n plan s a b u H r p le sh =
+    let z = join-shown h sh in
+    let l = pending-below W (r + height D) (r + max 1 (height D)) p c (omega arith) in
+    spread-join (z .first) (record {
+      alone = λ y q. let i = hung-rows _ _ D (z .hung) y in omega (arith, q .0);
+      clear = λ m q y. let i = in-hung _ _ D (z .hung) m y in omega (arith, q .0 .first (omega (arith, i .to-row)), i .from-column);
+      over = λ q. omega (arith, q .0);
+      first = (record { from = omega arith; first = λ y. refl; framed = omega arith }, λ y. absurd (omega arith));
+      nodes = λ q. (record { from = omega (arith, q .0 .from); first = λ y. absurd (omega (arith, q .0 .from)); framed = q .0 .framed }, q .1);
+      row = λ y. let i = hung-rows _ _ D (z .hung) y in (omega arith, λ q. omega arith);
+      rows = λ q. (omega (arith, q .0), q .1);
+    }) (n plan s a b u _ _ p (omega arith, omega arith) (z .rest))
 
-pub in-shift : (e t : ℕ) {Q : Point} (D : Layout) → InRectangle Q (shift e t D) → InWindow e (width D) t (height D) 1 (Q .column) (Q .row)
-in-shift e t D z =
-    let l = shift-within e t D (node-point (z .leftmost)) in
-    let m = shift-within e t D (node-point (z .rightmost)) in
-    let r = rows-shift e t D (z .rows) in
-    record { from-column = omega arith; to-column = omega arith; from-row = omega arith; to-row = omega arith }
+spread-switch : (W k : ℕ) (D : Layout) (ps : List Part) → width D ≤ W → widest ps ≤ W → 1 ≤ height D → Spreads W turn ps → Spreads W run (part switch k left D ∷ ps)
+unfolding place
+spread-switch W k D ps v w one n plan s a b u H r p le sh =
+    let z = join-shown left sh in
+    spread-join (z .first) (record {
+      alone = λ y q. let i = hung-rows _ _ D (z .hung) y in omega arith;
+      clear = λ m q y. let i = in-hung _ _ D (z .hung) m y in omega (arith, q .first (omega (arith, i .to-row)), i .to-column);
+      over = λ q. omega (arith, q .0);
+      first = (record { from = omega arith; first = λ y. refl; framed = omega arith }, λ y. absurd (omega arith));
+      nodes = λ q. (record { from = omega (arith, q .from); first = λ y. absurd (omega (arith, q .from)); framed = q .framed }, λ y. omega (arith, q .first (omega arith)));
+      row = λ y. let i = hung-rows _ _ D (z .hung) y in (omega arith, λ q. omega arith);
+      rows = λ q. (omega arith, λ y. omega arith);
+    }) (spread-flip s a b u (W + 2) {A′ = From W (W + 2) (r + height D + p) (r + 1)} (λ P q. q .framed)
+    (λ P q. record { from = q .from; first = λ y. omega (arith, q .first y); framed = omega arith })
+    (n plan _ _ _ u _ _ 0 (omega arith) (shown-flip (W + 2) _ (omega (arith, place-wide W ps w (r + height D + p) (r + 1) 0)) (z .rest))))
 
--- ---- a layout held by its edge e on a side, with its top at row t
+spread-right : (W k : ℕ) (D : Layout) (ps : List Part) → Spreads W run ps → Spreads W turn (part knee k right D ∷ ps)
+unfolding place join
+spread-right W k D ps n plan s a b u H r p le sh =
+    let z = join-shown right sh in
+    spread-join (z .first) (record {
+      alone = λ y q. let i = hung-rows _ _ D (z .hung) y in omega (arith, q .0);
+      clear = λ m q y. let i = in-hung _ _ D (z .hung) m y in omega (arith, q .0 .from, i .to-row);
+      over = λ q. omega arith;
+      first = record { from = omega arith; first = λ y. refl; framed = omega arith };
+      nodes = λ q. record { from = omega (arith, q .0 .from); first = λ y. absurd (omega (arith, q .0 .from)); framed = q .0 .framed };
+      row = λ y. let i = hung-rows _ _ D (z .hung) y in omega arith;
+      rows = λ q. omega (arith, q .0);
+    }) (n plan s a b u _ _ 0 (omega arith, omega arith) (z .rest))
 
-module _ (e t : ℕ) where
-  abbrev moved : Side → Point → Point
-  moved s Q = at (inwards s e (Q .column)) (t + Q .row)
+spread-left : (W k : ℕ) (D : Layout) (ps : List Part) → width D ≤ W → Proper W run ps → Spreads W run ps → Spreads W turn (part knee k left D ∷ ps)
+unfolding place join
+spread-left W k D ps w c n plan s a b u H r p le sh =
+    let z = join-shown left sh in
+    let l = pending-below W (max H r) (max H r + 1) (height D) c (omega arith) in
+    spread-join (z .first) (record {
+      alone = λ y q. let i = hung-rows _ _ D (z .hung) y in q .1 (omega arith, omega arith);
+      clear = λ m q y. let i = in-hung _ _ D (z .hung) m y in omega (arith, q .1 (omega (arith, i .from-row), omega (arith, i .to-row)), i .to-column);
+      over = λ q. omega arith;
+      first = record { from = omega arith; first = λ y. refl; framed = omega arith };
+      nodes = λ q. record { from = omega (arith, q .0 .from); first = λ y. absurd (omega (arith, q .0 .from)); framed = q .0 .framed };
+      row = λ y. let i = hung-rows _ _ D (z .hung) y in omega arith;
+      rows = λ q. omega (arith, q .0);
+    }) (n plan s a b u _ _ (height D) (omega arith, omega arith) (z .rest))
 
-  branch-put : (s x : Side) (L : Layout) → branch (sideOn s x) (put s e t L) ≡ put s e t (branch x L)
-  unfolding branch put sideOn opposite
-  branch-put s x blank = refl
-  branch-put left left (placed k P a b) = refl
-  branch-put left right (placed k P a b) = refl
-  branch-put right left (placed k P a b) = refl
-  branch-put right right (placed k P a b) = refl
-
-  rest-put : (s x : Side) (L : Layout) → branch (opposite (sideOn s x)) (put s e t L) ≡ put s e t (branch (opposite x) L)
-  unfolding sideOn
-  rest-put left x L = branch-put left (opposite x) L
-  rest-put right x L = branch-put right (opposite x) L
-
-  spine-put : (s : Side) (ss : List Side) (i : ℕ) (L : Layout) → spineAt (map (sideOn s) ss) i (put s e t L) ≡ put s e t (spineAt ss i L)
-  unfolding spineAt put
-  spine-put s ss zero L = refl
-  spine-put s [] (suc i) L = refl
-  spine-put s (x ∷ ss) (suc i) L = ap (spineAt (map (sideOn s) ss) i) (rest-put s x L) ∙ spine-put s ss i (branch (opposite x) L)
-
-  hung-put : (s : Side) (ss : List Side) (i : ℕ) (L : Layout) → hungAt (map (sideOn s) ss) i (put s e t L) ≡ put s e t (hungAt ss i L)
-  unfolding hungAt put
-  hung-put s [] i L = refl
-  hung-put s (x ∷ ss) zero L = branch-put s x L
-  hung-put s (x ∷ ss) (suc i) L = ap (hungAt (map (sideOn s) ss) i) (rest-put s x L) ∙ hung-put s ss i (branch (opposite x) L)
-
-  -- Where a node was.
-  record Was (s : Side) (L : Layout) (n : Node (put s e t L)) : Type 0 where
-    node : Node L
-    column : point n .column ≡ inwards s e (point node .column)
-    row : point n .row ≡ t + point node .row
-
-  was : (s : Side) (L : Layout) (n : Node (put s e t L)) → Was s L n
-  unfolding put inwards
-  was left (placed k P a b) root = record { node = root; column = refl; row = refl }
-  was right (placed k P a b) root = record { node = root; column = refl; row = refl }
-  was left (placed k P a b) (below left n) = let z = was left a n in record { node = below left (z .node); column = z .column; row = z .row }
-  was left (placed k P a b) (below right n) = let z = was left b n in record { node = below right (z .node); column = z .column; row = z .row }
-  was right (placed k P a b) (below left n) = let z = was right b n in record { node = below right (z .node); column = z .column; row = z .row }
-  was right (placed k P a b) (below right n) = let z = was right a n in record { node = below left (z .node); column = z .column; row = z .row }
-
-  row-was : (s : Side) {x : ℕ} (L : Layout) → OccupiesRow x (put s e t L) → OccupiesRow (x - t) L
-  row-was s L o =
-      let m = was s L (o .high) in
-      let n = was s L (o .low) in
-      record { high = m .node; low = n .node; from = omega arith; to = omega arith }
-
-  -- Q, a point of L, was in the rectangle of M, a part of L.
-  in-was : (s : Side) {Q : Point} (L M : Layout) → Fit s e L → Q .column < width L → width M ≤ width L → InRectangle (moved s Q) (put s e t M) → InRectangle Q M
-  unfolding inwards
-  in-was left L M fit h w z =
-      let o = row-was left M (z .rows) in
-      let m = was left M (z .leftmost) in
-      let n = was left M (z .rightmost) in
-      record { rows = record { high = o .high; low = o .low; from = omega arith; to = omega arith }; leftmost = m .node; rightmost = n .node; from = omega arith; to = omega arith }
-  in-was right L M fit h w z =
-      let o = row-was right M (z .rows) in
-      let m = was right M (z .rightmost) in
-      let n = was right M (z .leftmost) in
-      record {
-        rows = record { high = o .high; low = o .low; from = omega arith; to = omega arith };
-        leftmost = m .node;
-        rightmost = n .node;
-        from = omega (arith, narrow (m .node));
-        to = omega (arith, narrow (n .node));
-      }
-
-  tops-put : (s : Side) (C : Point → Type 0) (M : Layout) → ((h : HasRoot M) → C (moved s (point (top h)))) → (h : HasRoot (put s e t M)) → C (point (top h))
-  unfolding put inwards
-  tops-put left C (placed k P a b) n a-root = n a-root
-  tops-put right C (placed k P a b) n a-root = n a-root
-
-  nodes-put : (s : Side) (C : Point → Type 0) (ss : List Side) (L : Layout) → ((i : ℕ) (h : HasRoot (spineAt ss i L)) → C (moved s (point (top h)))) →
-      (i : ℕ) (h : HasRoot (spineAt (map (sideOn s) ss) i (put s e t L))) → C (point (top h))
-  nodes-put s C ss L n i = subst (λ (M : Layout). (h : HasRoot M) → C (point (top h))) (sym (spine-put s ss i L)) (tops-put s C (spineAt ss i L) (n i))
-
-  pub spread-put : (s : Side) {A A′ : Point → Type 0} {R R′ : ℕ → Type 0} {ss : List Side} {L : Layout} → Fit s e L → ((Q : Point) → A Q → A′ (moved s Q)) → ((x : ℕ) → R (x - t) → R′ x) →
-      Spread A R ss L → Spread A′ R′ (map (sideOn s) ss) (put s e t L)
-  spread-put s {A} {A′} {R} {R′} {ss} {L} fit f g n = record {
-    apart = record {
-      rows-apart = λ x i j y z. n .apart .rows-apart (x - t) i j (back x i y) (back x j z);
-      spine-outside = λ i j. nodes-put s (λ Q. InRectangle Q (hungAt (map (sideOn s) ss) j (put s e t L)) → ⊥) ss L (λ i h z. n .apart .spine-outside i j h
-          (in-was s L (hungAt ss j L) fit (omega (arith, narrow-spine ss i L, narrow (top h))) (narrow-hung ss j L) (subst (InRectangle _) (hung-put s ss j L) z))) i;
-    };
-    node = nodes-put s A′ ss L (λ i h. f _ (n .node i h));
-    hung = λ i x y. g x (n .hung i (x - t) (back x i y));
-  }
-    where
-      back : (x i : ℕ) → OccupiesRow x (hungAt (map (sideOn s) ss) i (put s e t L)) → OccupiesRow (x - t) (hungAt ss i L)
-      back x i y = row-was s (hungAt ss i L) (subst (OccupiesRow x) (hung-put s ss i L) y)
-
--- A flipped layout is held by its right edge.
-pub flip-put : (e : ℕ) (L : Layout) → put right e 0 L ≡ flip e L
-unfolding held
-flip-put e L = put-held right e 0 L ∙ shift-none (flip e L)
+pub spread : (W : ℕ) {z : Stretch} {ps : List Part} → Proper W z ps → widest ps ≤ W → Spreads W z ps
+unfolding widest
+spread W (ended {z}) w = λ plan s a b u H r p le sh. spread-end plan s a b u z W H r p _
+spread W (an-ordinary {k} {s} {D} {ps} g v o c) w = spread-ordinary W k s D ps c (spread W c (omega arith))
+spread W (a-switch {k} {D} {ps} g v h c) w = spread-switch W k D ps v (omega arith) (rooted-high h) (spread W c (omega arith))
+spread W (a-knee {k} {s = right} {D} {ps} g v c) w = spread-right W k D ps (spread W c (omega arith))
+spread W (a-knee {k} {s = left} {D} {ps} g v c) w = spread-left W k D ps v c (spread W c (omega arith))

@@ -1,114 +1,104 @@
--- For request 9 (no gaps, no shared rows); nothing cites it yet.
--- THE LAW "no shared rows", for every spine of a drawing (`every-spine`): the spine of the whole tree, and that of each subtree that hangs from a spine node, at any depth. That every row
--- holds a node is the theorem's `filled`.
-use mathlib.Core.Path.{_≡_, refl, sym, subst}
-use mathlib.Core.Bool.{Bool, true, false}
-use mathlib.Core.List.{List, [], _∷_, map}
-use Prim.Native.Nat.{ℕ, zero, suc, _+_, max}
+-- THE LAW "no shared rows" (document 02, Paper 9), for every spine of a drawing (`every-spine`) and of the drawings of several trees (`each-tree`): the spine of a whole tree, and that of each
+-- subtree that hangs from a spine node, at any depth. Rests on Apart, which has it for one spine, and on the theorem on a drawing.
+use mathlib.Core.Path.{_≡_, sym, subst}
+use mathlib.Core.List.{List, _∷_, map}
+use Prim.Native.Nat.{ℕ, _+_, _≤_}
 use native.Mathlib.Omega.{arith}
 use Rattle.segment.specs.declared.Point.{Point}
 use Rattle.table.specs.Table.{Side, left, right}
-use Rattle.table.specs.Tree.{Tree, none, size}
-use Rattle.layout.specs.Layout.{Layout, blank, width, mirror}
-use Rattle.layout.specs.Spine.{SpineNode, hangs, Role, knee, handAfter, facing}
-use Rattle.layout.specs.Drawing.{join, Rest, drawing, draw}
-use Rattle.layout.specs.inner.Held.{inwards, put, hungOn, heightOn, widthOn, spineOn, roleNext, far, lay, widestOn, Fit, Inside, Rooms, no-rooms, knee-room, ordinary-room, switch-room}
+use Rattle.table.specs.Tree.{Tree, size}
+use Rattle.layout.specs.Layout.{Layout, height, shift}
+use Rattle.layout.specs.Spine.{spine, Role, knee, ordinary, switch, Assigned, roles}
+use Rattle.layout.specs.Drawing.{Part, part, hang, widest, join, place, steps, draw}
+use Rattle.layout.specs.Trees.{drawFrom}
+use Rattle.layout.specs.Rectangle.{Hangs, here, further, DrawnIn, whole, hung, OccupiesRow, InRectangle, SpinesApart}
 use Rattle.layout.proofs.Rows.{shape}
-use Rattle.layout.proofs.Spines.{hungTree}
-use Rattle.layout.proofs.Sides.{shape-hung}
-use Rattle.layout.proofs.Held.{inside-less, rooms-law, hung-inside, inside-fits, hung-law, draw-hung, some-inside, frame-from}
-use Rattle.layout.proofs.Apart.{sideOff, hungAt, SpineApart, each-hung}
-use Rattle.layout.proofs.ApartAlong.{apart}
+use Rattle.layout.proofs.Along.{turn, Proper}
+use Rattle.layout.proofs.Spines.{light-spine, first-knee, proper, Framed, place-wide}
+use Rattle.layout.proofs.Whole.{drawn, draw-law}
+use Rattle.layout.proofs.Stacked.{Among, there, AgreesAll}
+use Rattle.layout.proofs.Shown.{Shown, agrees-shown, shown-shift, shown-flip, join-shown}
+use Rattle.layout.proofs.Apart.{PartOf, first-part, later-part, SpineApart, spread}
 
--- ---- the law
+-- ---- what hangs from a spine is shown where the spine is
 
--- What hangs from the i-th spine node, and that node's hand, where the first node has the hand a and the role o.
-unfoldable pub treeAt : List SpineNode → ℕ → Tree
-treeAt [] i = none
-treeAt (l ∷ ls) zero = hungTree l
-treeAt (l ∷ ls) (suc i) = treeAt ls i
+-- A plan shows a layout, wherever it is.
+pub data ShownIn (plan : ℕ → Point) (L : Layout) : Type 0 where
+  shown-at : {s : Side} {a b u : ℕ} → Shown plan s a b u L → ShownIn plan L
 
-unfoldable pub handAt : Side → Role → List SpineNode → ℕ → Side
-handAt a o [] i = a
-handAt a o (l ∷ ls) zero = a
-handAt a o (l ∷ ls) (suc i) = handAt (handAfter o a) (roleNext (handAfter o a) o ls) ls i
+-- .. what is placed from a spine node on.
+data PlacedIn (plan : ℕ → Point) (W : ℕ) (ps : List Part) : Type 0 where
+  placed-at : (H r p : ℕ) → ShownIn plan (place W H r p ps .drawn) → PlacedIn plan W ps
 
--- In the drawing of t the subtree S is drawn as L on the side s: it is t itself, or it hangs from a spine node of such a subtree, and is drawn on that node's hand.
-pub data DrawnIn (t : Tree) : Side → Tree → Layout → Type 0 where
-  itself : DrawnIn t left t (draw t)
-  hung : {s : Side} {S : Tree} {L : Layout} (i : ℕ) → DrawnIn t s S L → DrawnIn t (handAt s knee (spineOn s S) i) (treeAt (spineOn s S) i) (hungAt (map sideOff (spineOn s S)) i L)
+-- The first part of a spine, and the others.
+first-shown : {plan : ℕ → Point} {s : Side} {a b u : ℕ} (W : ℕ) (o : Role) (k : ℕ) (h : Side) (D : Layout) (ps : List Part) → Framed W ps → (H r p : ℕ) →
+    Shown plan s a b u (place W H r p (part o k h D ∷ ps) .drawn) → ShownIn plan D × PlacedIn plan W ps
+unfolding place join
+first-shown W knee k left D ps w H r p sh = let z = join-shown left sh in (shown-at (shown-shift _ _ D (z .hung)), placed-at _ _ _ (shown-at (z .rest)))
+first-shown W knee k right D ps w H r p sh = let z = join-shown right sh in (shown-at (shown-shift _ _ D (z .hung)), placed-at _ _ _ (shown-at (z .rest)))
+first-shown W ordinary k h D ps w H r p sh = let z = join-shown h sh in (shown-at (shown-shift _ _ D (z .hung)), placed-at _ _ _ (shown-at (z .rest)))
+first-shown W switch k h D ps w H r p sh =
+    let z = join-shown h sh in
+    (shown-at (shown-shift _ _ D (z .hung)), placed-at _ _ _ (shown-at (shown-flip (W + 2) _ (omega (arith, w (r + height D + p) (r + 1) 0)) (z .rest))))
 
--- "For every spine in a plain plan, the drawings of its hung subtrees occupy rows that no other drawing of that spine occupies, and spine boxes lie outside their rectangles."
-pub record NoSharedRows (s : Side) (S : Tree) (L : Layout) : Type 0 where
-  -- the same records and links
-  pub same : shape L ≡ S
-  pub apart : SpineApart (map sideOff (spineOn s S)) L
+part-shown : {plan : ℕ → Point} {k : ℕ} {D : Layout} (W : ℕ) {ps : List Part} → widest ps ≤ W → PartOf k D ps → PlacedIn plan W ps → ShownIn plan D
+unfolding widest
+part-shown {D} W w (first-part {o} {s} {ps}) (placed-at H r p (shown-at sh)) = first-shown W o _ s D ps (place-wide W ps (omega arith)) H r p sh .0
+part-shown W w (later-part {q = part o j h E} {ps} d) (placed-at H r p (shown-at sh)) = part-shown W (omega arith) d (first-shown W o j h E ps (place-wide W ps (omega arith)) H r p sh .1)
 
--- ---- what is drawn is hung on a side
+-- ---- one spine
 
-record HungSomewhere (s : Side) (S : Tree) (L : Layout) : Type 0 where
-  e : ℕ
-  t : ℕ
-  fit : Fit s e (draw (facing s S))
-  is : L ≡ hungOn s e t S
+-- The parts of the spine of S.
+abbrev spineParts : Tree → List Part
+spineParts S = map (hang draw) (roles (spine S))
 
-hung-there : (B : ℕ) (a : Side) (e c t : ℕ) (S : Tree) → Inside B a e (c + widthOn a S) → HungSomewhere a S (hungOn a (inwards a e c) t S)
-unfolding widthOn
-hung-there B a e c t S i = record { e = inwards a e c; t = t; fit = inside-fits B a (inwards a e c) (draw (facing a S)) (hung-inside B a e c (widthOn a S) i); is = refl }
+hangs-part : {k : ℕ} {U : Tree} {ls : List Assigned} → Hangs k U ls → PartOf k (draw U) (map (hang draw) ls)
+unfolding hang
+hangs-part here = first-part
+hangs-part (further h) = later-part (hangs-part h)
 
-nothing-hung : (a : Side) → HungSomewhere a none blank
-unfolding hungOn put facing mirror draw drawing size width
-nothing-hung left = record { e = 0; t = 0; fit = tt; is = refl }
-nothing-hung right = record { e = 0; t = 0; fit = omega arith; is = refl }
+spine-proper : (S : Tree) → Proper (widest (spineParts S)) turn (spineParts S)
+spine-proper S = subst (λ (ls : List Assigned). Proper (widest (map (hang draw) ls)) turn (map (hang draw) ls)) (sym (first-knee (spine S)))
+    (proper (size S) _ draw (λ U h. drawn U) right switch (light-spine (size S) S (omega arith)) (omega arith))
 
--- All that hangs from the nodes of a spine.
-record AllHung (a : Side) (o : Role) (ls : List SpineNode) (L : Layout) : Type 0 where
-  each : (i : ℕ) → HungSomewhere (handAt a o ls i) (treeAt ls i) (hungAt (map sideOff ls) i L)
+module _ {plan : ℕ → Point} (S : Tree) where
+  from-row-0 : ShownIn plan (draw S) → ShownIn plan (place (widest (spineParts S)) 0 0 0 (spineParts S) .drawn)
+  unfolding steps
+  from-row-0 h = subst (ShownIn plan) (draw-law S) h
 
-hung-join : (k : ℕ) (P : Point) (s : Side) {a : Side} {o : Role} {S : Tree} {ls : List SpineNode} {D N : Layout} → HungSomewhere a S D → AllHung (handAfter o a) (roleNext (handAfter o a) o ls) ls N →
-    AllHung a o (hangs k s S ∷ ls) (join k P s D N)
-unfolding handAt treeAt
-hung-join k P s {a} {o} {S} {ls} {D} {N} d n =
-    record { each = each-hung (λ i M. HungSomewhere (handAt a o (hangs k s S ∷ ls) i) (treeAt (hangs k s S ∷ ls) i) M) k P s D N (map sideOff ls) d (n .each) }
+  hung-shown : {k : ℕ} {U : Tree} → ShownIn plan (draw S) → Hangs k U (roles (spine S)) → ShownIn plan (draw U)
+  hung-shown h i = part-shown (widest (spineParts S)) (omega arith) (hangs-part i) (placed-at 0 0 0 (from-row-0 h))
 
-either : (c : Bool) {a : Side} {o : Role} {ls : List SpineNode} (x y : Rest) → AllHung a o ls (x .drawn) → AllHung a o ls (y .drawn) →
-    AllHung a o ls (elim c as (λ b. Rest) [ true ↦ x | false ↦ y ] .drawn)
-either true x y h i = h
-either false x y h i = i
+  spine-apart : ShownIn plan (draw S) → SpineApart plan (spineParts S)
+  spine-apart h = go (from-row-0 h)
+    where
+      go : ShownIn plan (place (widest (spineParts S)) 0 0 0 (spineParts S) .drawn) → SpineApart plan (spineParts S)
+      go (shown-at {s} {a} {b} {u} sh) = spread (widest (spineParts S)) (spine-proper S) (omega arith) plan s a b u 0 0 0 (omega arith) sh .law
 
--- As a program lays it.
-laid-hung : (B W H r p : ℕ) {a : Side} {e f : ℕ} {o : Role} {ls : List SpineNode} → Rooms B W a e f o ls → AllHung a o ls (lay a e f o H r p ls .drawn)
-unfolding lay far join handAfter handAt treeAt hungAt
-laid-hung B W H r p (no-rooms {a}) = record { each = λ i. nothing-hung a }
-laid-hung B W H r p (ordinary-room {a} {s} {e} {k} {S} i n) = hung-join k _ s (hung-there B a e 2 (r + 1) S i) (laid-hung B W (r + heightOn a S) (r + max 1 (heightOn a S)) p n)
-laid-hung B W H r p (switch-room {a} {s} {e} {k} {S} z w i x n) =
-    hung-join k _ s (hung-there B a e 1 (r + 1) S (inside-less B a e (omega arith) i)) (laid-hung B W (r + heightOn a S + p) (r + 1) 0 n)
-laid-hung B W H r p (knee-room {a} {s} {e} {k} {S} i n) = either (far a s) _ _
-    (hung-join k _ s (hung-there B a e 1 _ S i) (laid-hung B W (max H r + heightOn a S) (max H r + heightOn a S + 1) 0 n))
-    (hung-join k _ s (hung-there B a e 1 _ S i) (laid-hung B W (max H r) (max H r + 1) (heightOn a S) n))
+-- ---- every spine
 
-all-hung : (s : Side) (e t : ℕ) (S : Tree) → Fit s e (draw (facing s S)) → AllHung s knee (spineOn s S) (hungOn s e t S)
-unfolding widthOn
-all-hung s e t S fit =
-    let f = inwards s e (widestOn s S + 2) in
-    let z = frame-from s e (widestOn s S + 2) in
-    let B = e + suc (widthOn s S) in
-    let c = rooms-law B s e f t S z (some-inside s e (draw (facing s S)) fit) in
-    subst (AllHung s knee (spineOn s S)) (sym (hung-law s e f t S z fit)) (laid-hung B (widestOn s S) t t 0 c)
+-- The drawing of U has the nodes of U.
+pub of-drawing : (A : Tree → Type 0) (U : Tree) → A U → A (shape (draw U))
+of-drawing A U = subst A (sym (drawn U .same))
 
-hung-somewhere : {t : Tree} {s : Side} {S : Tree} {L : Layout} → DrawnIn t s S L → HungSomewhere s S L
-hung-somewhere {t} itself = record { e = 0; t = 0; fit = tt; is = draw-hung t }
-hung-somewhere {t} (hung {s} {S} i d) =
-    let z = hung-somewhere d in
-    subst (AllHung s knee (spineOn s S)) (sym (z .is)) (all-hung s (z .e) (z .t) S (z .fit)) .each i
+module _ {plan : ℕ → Point} (a : Tree) (h : ShownIn plan (draw a)) where
+  drawn-shown : {S : Tree} → DrawnIn a S → ShownIn plan (draw S)
+  drawn-shown whole = h
+  drawn-shown (hung {S} d i) = hung-shown S (drawn-shown d) i
 
--- ---- the theorem
+  pub every-spine : SpinesApart plan a
+  every-spine = record { apart = apart; outside = outside }
+    where
+      apart : {S U U′ : Tree} {k m x : ℕ} → DrawnIn a S → Hangs k U (roles (spine S)) → Hangs m U′ (roles (spine S)) → OccupiesRow plan U x → OccupiesRow plan U′ x → k ≡ m
+      apart {S} {U} {U′} {x} d i j y z =
+          spine-apart S (drawn-shown d) .apart (hangs-part i) (hangs-part j) (of-drawing (λ X. OccupiesRow plan X x) U y) (of-drawing (λ X. OccupiesRow plan X x) U′ z)
 
-pub every-spine : {t : Tree} {s : Side} {S : Tree} {L : Layout} → DrawnIn t s S L → NoSharedRows s S L
-unfolding hungOn
-every-spine {s} {S} d =
-    let z = hung-somewhere d in
-    subst (NoSharedRows s S) (sym (z .is)) (record {
-      same = shape-hung s (z .e) (z .t) S;
-      apart = apart s (z .e) (z .t) S (z .fit);
-    })
+      outside : {S U U′ : Tree} {k m : ℕ} → DrawnIn a S → Hangs k U (roles (spine S)) → Hangs m U′ (roles (spine S)) → InRectangle plan U′ (plan k) → ⊥
+      outside {S} {U′} {k} d i j z = spine-apart S (drawn-shown d) .outside (hangs-part i) (hangs-part j) (of-drawing (λ X. InRectangle plan X (plan k)) U′ z)
+
+-- ---- several trees
+
+pub each-tree : {plan : ℕ → Point} (ts : List Tree) (r : ℕ) → AgreesAll plan (drawFrom r ts) → (a : Tree) → Among (λ b. b ≡ a) ts → SpinesApart plan a
+unfolding drawFrom
+each-tree {plan} (b ∷ ts) r fit a (Among.here e) = subst (SpinesApart plan) e (every-spine b (shown-at (shown-shift 0 r (draw b) (agrees-shown plan (shift 0 r (draw b)) (fit .0)))))
+each-tree (b ∷ ts) r fit a (there i) = each-tree ts (r + height (draw b)) (fit .1) a i

@@ -1,4 +1,4 @@
--- The drawing as a program makes it is the drawing: a subtree on a side (`hung-law`), and the whole tree is one that is held by its left edge at column 0 (`hung-shift`, `draw-hung`). The first row below
+-- The drawing as a program makes it is the drawing: a subtree on a side (`hung-law`), and the whole tree is one that is held by its left edge at column 0 (`hung-shift`). The first row below
 -- it is counted along the spine (`bottom-law`), and every column that is needed on the way is there (`rooms-law`).
 use mathlib.Core.Path.{_≡_, refl, ap, sym, _∙_}
 use mathlib.Core.List.{List, [], _∷_, map}
@@ -11,11 +11,11 @@ use Rattle.layout.specs.Layout.{Layout, blank, placed, width, height, sh
 use Rattle.layout.specs.Spine.{SpineNode, hangs, Role, knee, ordinary, switch, opposite, seen, roleAfter, handAfter, assigned, rolesAfter, facing}
 use Rattle.layout.specs.Drawing.{Part, part, hang, widest, join, place, draw}
 use Rattle.layout.specs.inner.Held.{inwards, put, hungOn, heightOn, widthOn, spineOn, roleNext, far, lay, rolesFrom, widestOn, Frame, Fit, Exact, bottom, Inside, GoesOn, Rooms, no-rooms, knee-room, ordinary-room, switch-room}
-use Rattle.layout.proofs.Motions.{width-shift, width-shifted, width-flip, shift-none}
+use Rattle.layout.proofs.Motions.{width-shifted}
 use Rattle.layout.proofs.Rows.{shape, count, size-facing}
 use Rattle.layout.proofs.Steps.{wide-join}
 use Rattle.layout.proofs.Heights.{last}
-use Rattle.layout.proofs.Spines.{spineTree, Light, light-end, light-node, size-seen, Goes, goes-on, parts, light-on, knee-wide}
+use Rattle.layout.proofs.Spines.{place-wide, spineTree, Light, light-end, light-node, size-seen, Goes, goes-on, parts, light-on, knee-wide}
 use Rattle.layout.proofs.Whole.{draw-rows}
 use Rattle.layout.proofs.Theorem.{promise}
 use Rattle.layout.proofs.Sides.{sideOn, partsOn, parts-on, draw-on, put-flip, held, held-join, put-held}
@@ -54,18 +54,6 @@ inside-less B left e i h = omega arith
 inside-less B right e i h = (omega arith, omega arith)
 
 -- ---- the frame holds what is drawn
-
-place-wide : (W H r p : ℕ) (ps : List Part) → widest ps ≤ W → width (place W H r p ps .drawn) ≤ W + 3
-unfolding place widest width
-place-wide W H r p [] w = omega arith
-place-wide W H r p (part knee k left D ∷ ps) w = omega (arith, place-wide W (max H r) (max H r + 1) (height D) ps (omega arith), width-shift 1 (place W (max H r) (max H r + 1) (height D) ps .under) D)
-place-wide W H r p (part knee k right D ∷ ps) w = omega (arith, place-wide W (max H r + height D) (max H r + height D + 1) 0 ps (omega arith), width-shift 1 (max H r + 1) D)
-place-wide W H r p (part ordinary k s D ∷ ps) w =
-    let N = place W (r + height D) (r + max 1 (height D)) p ps .drawn in
-    omega (arith, wide-join k (at 1 r) s (shift 2 (r + 1) D) N, place-wide W (r + height D) (r + max 1 (height D)) p ps (omega arith), width-shift 2 (r + 1) D)
-place-wide W H r p (part switch k s D ∷ ps) w =
-    let N = place W (r + height D + p) (r + 1) 0 ps .drawn in
-    omega (arith, wide-join k (at 1 r) s (shift 1 (r + 1) D) (flip (W + 2) N), width-flip (W + 2) N, width-shift 1 (r + 1) D)
 
 -- After a switch the spine goes on.
 some-left : (ls : List SpineNode) → 1 ≤ size (spineTree ls) → GoesOn ls
@@ -130,7 +118,7 @@ module _ (B W t : ℕ) where
       let i′ = inside-less B a e {v = W + 3} (omega (arith, v, told-wide W (r + height D + p) (r + 1) 0 g z)) i in
       let x = exact B W a e f fr i′ in
       let wD : widthOn a S ≤ W = omega arith in
-      let wN = place-wide W (r + height D + p) (r + 1) 0 ps (omega arith) in
+      let wN = place-wide W ps (omega arith) (r + height D + p) (r + 1) 0 in
       let n = laid (opposite a) f e (W + 3) (frame-back W a e f x) (inside-back B W a e f x i′) z (r + height D + p) (r′ + height D + p) (r + 1) (r′ + 1) 0 (omega arith) (omega arith) (omega arith) wN in
       record {
         drawn = held-join a e t k 1 r 1 (r + 1) s S (flip (W + 2) N) refl j (omega arith) (n .drawn ∙ sym (put-flip a e f (W + 2) t x N (omega arith)));
@@ -200,7 +188,7 @@ pub inside-fits : (B : ℕ) (a : Side) (e : ℕ) (L : Layout) → Inside B a e (
 inside-fits B left e L i = tt
 inside-fits B right e L i = i .0
 
-pub some-inside : (s : Side) (e : ℕ) (L : Layout) → Fit s e L → Inside (e + suc (width L)) s e (width L)
+some-inside : (s : Side) (e : ℕ) (L : Layout) → Fit s e L → Inside (e + suc (width L)) s e (width L)
 some-inside left e L h = omega arith
 some-inside right e L h = (h, omega arith)
 
@@ -213,13 +201,10 @@ pub hung-law : (s : Side) (e f t : ℕ) (S : Tree) → Frame s e f (widestOn s S
 unfolding hungOn widestOn widthOn
 hung-law s e f t S fr fit = ap (put s e t) (draw-on s S) ∙ sym (all-laid (e + suc (width (draw (facing s S)))) s e f t S fr (some-inside s e (draw (facing s S)) fit) .drawn)
 
--- The whole tree is held by its left edge at column 0, from row r on or from row 0.
+-- The whole tree is held by its left edge at column 0, from row r on.
 pub hung-shift : (r : ℕ) (t : Tree) → hungOn left 0 r t ≡ shift 0 r (draw t)
 unfolding hungOn facing held
 hung-shift r t = put-held left 0 r (draw t)
-
-pub draw-hung : (t : Tree) → draw t ≡ hungOn left 0 0 t
-draw-hung t = sym (hung-shift 0 t ∙ shift-none (draw t))
 
 pub height-size : (s : Side) (S : Tree) → heightOn s S ≤ size S
 unfolding heightOn

@@ -4,21 +4,26 @@ use mathlib.Core.Path.{_≡_, refl, ap, ap₂, _∙_}
 use mathlib.Core.Bool.{Bool, true, false}
 use mathlib.Core.List.{List, [], _∷_, map, map-id}
 use mathlib.Core.Logic.{_⊎_, inl, inr, ⊎-elim}
-use Prim.Native.Nat.{ℕ, suc, _+_, _*_, _≤_, max}
+use Prim.Native.Nat.{ℕ, suc, _+_, _*_, _≤_, _<_, max}
 use native.Mathlib.Decide.{decLe}
 use native.Mathlib.Omega.{arith}
 use lib.Dec.{leb}
 use borrow.Author.Tests.{le-leb, lt-leb}
 use Rattle.segment.specs.declared.Point.{Point}
+use Rattle.segment.specs.Segment.{at}
 use Rattle.table.specs.Table.{Side, left, right}
-use Rattle.table.specs.Tree.{Tree, none, node, size}
+use Rattle.table.specs.Lists.{count}
+use Rattle.table.specs.Tree.{Tree, none, node, nodes, size}
+use Rattle.table.proofs.Lists.{same}
+use Rattle.table.proofs.Chain.{count-node}
 use Rattle.layout.specs.Layout.{Layout, blank, placed, width, mirror, height, shift, flip}
 use Rattle.layout.specs.Spine.{SpineNode, hangs, spine, Role, knee, ordinary, switch, opposite, seen, runRole, roleAfter, handAfter, assigned, rolesAfter, roles, facing}
 use Rattle.layout.specs.Drawing.{Part, part, hang, widest, join, place}
 use Rattle.layout.specs.inner.Held.{spineOn}
 use Rattle.layout.proofs.Clean.{HasRoot, a-root}
-use Rattle.layout.proofs.Motions.{width-flip}
+use Rattle.layout.proofs.Motions.{width-flip, width-shift}
 use Rattle.layout.proofs.Rows.{shape, mirror-twice, size-mirror, shape-shift, shape-flip}
+use Rattle.layout.proofs.Steps.{wide-join}
 use Rattle.layout.proofs.Along.{Drawn, Stretch, turn, run, Beside, on-right, nothing, Proper, ended, a-knee, an-ordinary, a-switch}
 
 -- ---- spine nodes
@@ -54,7 +59,7 @@ spine-on right none = refl
 spine-on left (node k a b) = by-test left (leb (size b) (size a)) (hangs k right b) (hangs k left a) (spineOn left a) (spineOn left b) (spine-on left a) (spine-on left b)
 spine-on right (node k a b) = rw (size-mirror a, size-mirror b, spine) (by-test right (leb (size a) (size b)) (hangs k left a) (hangs k right b) (spineOn right b) (spineOn right a) (spine-on right b) (spine-on right a))
 
-pub spine-here : (t : Tree) → spine t ≡ spineOn left t
+spine-here : (t : Tree) → spine t ≡ spineOn left t
 unfolding facing seen
 spine-here t = spine-on left t ∙ map-id (spineOn left t)
 
@@ -69,6 +74,9 @@ pub tree-spine : (s : Side) (t : Tree) → spineTree (spineOn s t) ≡ t
 unfolding spineTree over spineOn
 tree-spine s none = refl
 tree-spine s (node k a b) = ⊎-elim (λ e. ap spineTree (e .1) ∙ ap (λ (n : Tree). node k n b) (tree-spine s a)) (λ e. ap spineTree (e .1) ∙ ap (node k a) (tree-spine s b)) (spine-either s k a b)
+
+pub spine-whole : (t : Tree) → spineTree (spine t) ≡ t
+spine-whole t = ap spineTree (spine-here t) ∙ tree-spine left t
 
 pub light-on : (n : ℕ) (s : Side) (t : Tree) → size t ≤ n → Light n (spineOn s t)
 unfolding spineOn size
@@ -90,6 +98,11 @@ pub size-over : (l : SpineNode) (t : Tree) → size (over l t) ≡ suc (size (hu
 unfolding over size
 size-over (hangs k left u) t = refl
 size-over (hangs k right u) t = omega arith
+
+pub count-over : (x j : ℕ) (s : Side) (t n : Tree) → count x (nodes (over (hangs j s t) n)) ≡ same x j + (count x (nodes t) + count x (nodes n))
+unfolding over
+count-over x j left t n = count-node x j t n
+count-over x j right t n = omega (arith, count-node x j n t)
 
 -- A switch is followed by a node, since what hangs from it has no more nodes than the rest of the spine.
 abbrev pub Goes : Role → List SpineNode → Type 0
@@ -160,6 +173,28 @@ pub knee-wide : (W H r p k : ℕ) (s : Side) (D : Layout) (ps : List Part) → w
 unfolding place flip width
 knee-wide W H r p k left D ps = omega (arith, width-flip (W + 2) (shift 1 (place W (max H r) (max H r + 1) (height D) ps .under) D), width-flip (W + 2) (place W (max H r) (max H r + 1) (height D) ps .drawn))
 knee-wide W H r p k right D ps = omega (arith, width-flip (W + 2) (place W (max H r + height D) (max H r + height D + 1) 0 ps .drawn), width-flip (W + 2) (shift 1 (max H r + 1) D))
+
+-- A node in a column below B, with a drawing and a rest that end before B.
+wide-part : (k : ℕ) (P : Point) (s : Side) (e t B : ℕ) (D N : Layout) → P .column < B → e + width D ≤ B → width N ≤ B → width (join k P s (shift e t D) N) ≤ B
+wide-part k P s e t B D N h i j = omega (arith, wide-join k P s (shift e t D) N, width-shift e t D)
+
+-- The frame holds what is placed, wherever it is.
+abbrev pub Framed : ℕ → List Part → Type 0
+Framed W ps = (H r p : ℕ) → width (place W H r p ps .drawn) ≤ W + 3
+
+framed-part : (W : ℕ) (o : Role) (k : ℕ) (s : Side) (D : Layout) (ps : List Part) → width D ≤ W → Framed W ps → Framed W (part o k s D ∷ ps)
+unfolding place join
+framed-part W knee k left D ps w n H r p = wide-part k (at 0 r) left 1 _ (W + 3) D _ (omega arith) (omega arith) (n _ _ _)
+framed-part W knee k right D ps w n H r p = wide-part k (at 0 r) right 1 _ (W + 3) D _ (omega arith) (omega arith) (n _ _ _)
+framed-part W ordinary k s D ps w n H r p = wide-part k (at 1 r) s 2 _ (W + 3) D _ (omega arith) (omega arith) (n _ _ _)
+framed-part W switch k s D ps w n H r p =
+    let N = place W (r + height D + p) (r + 1) 0 ps .drawn in
+    wide-part k (at 1 r) s 1 _ (W + 3) D (flip (W + 2) N) (omega arith) (omega arith) (omega (arith, width-flip (W + 2) N))
+
+pub place-wide : (W : ℕ) (ps : List Part) → widest ps ≤ W → Framed W ps
+unfolding place widest width
+place-wide W [] w = λ H r p. omega arith
+place-wide W (part o k s D ∷ ps) w = framed-part W o k s D ps (omega arith) (place-wide W ps (omega arith))
 
 -- ---- the tree
 

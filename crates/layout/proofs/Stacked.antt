@@ -1,5 +1,5 @@
 -- Several trees, one under the other: what the check asks of all their nodes and edges together (`trees-checked`), how wide and how high they are (`trees-narrow`, `trees-short`), and that
--- every row holds a node (`rows-held`). Two trees share no row, so that what shares a point is in one tree (`same-tree`). Rests on the theorem on one drawing, on Records and on Motions.
+-- every row holds a node (`rows-held`). Two trees share no row, so that what is at one row, or shares a point, is in one tree (`one-row`, `same-tree`). Rests on the theorem on one drawing, on Records and on Motions.
 use mathlib.Core.Path.{_≡_, ap, sym, subst}
 use mathlib.Core.List.{List, [], _∷_}
 use Prim.Native.Nat.{ℕ, suc, _+_, _*_, _-_, _^_, _≤_, _<_, max}
@@ -17,7 +17,7 @@ use Rattle.table.proofs.Chain.{length-trees}
 use Rattle.layout.specs.Layout.{Layout, width, height, shift}
 use Rattle.layout.specs.Drawing.{draw}
 use Rattle.layout.specs.Trees.{drawFrom, drawTrees, widthOf, heightOf}
-use Rattle.layout.proofs.Points.{PointOf, RootAt, InWindow}
+use Rattle.layout.proofs.Points.{PointOf, RootAt}
 use Rattle.layout.proofs.Motions.{shift-within, width-home, height-shift, height-below, shift-none, root-shift}
 use Rattle.layout.proofs.Rows.{shape, HoldsRow, row-shift}
 use Rattle.layout.proofs.Theorem.{promise}
@@ -69,7 +69,7 @@ unfolding drawFrom heightOf
 trees-short [] r = omega arith
 trees-short (a ∷ ts) r = omega (arith, length-trees a ts, height-shift 0 r (draw a), promise a .short, trees-short ts (r + height (draw a)))
 
--- ---- 21 to 25
+-- ---- one of several
 
 -- P holds of one of several trees, or of one of their drawings.
 pub data Among {A : Type 0} (P : A → Type 0) : List A → Type 0 where
@@ -80,6 +80,34 @@ pub data Among {A : Type 0} (P : A → Type 0) : List A → Type 0 where
 abbrev pub AgreesAll : (ℕ → Point) → List Layout → Type 0
 AgreesAll plan [] = Unit {0}
 AgreesAll plan (L ∷ Ls) = Agrees plan L × AgreesAll plan Ls
+
+-- What P says of a tree is at row y / q in each of its drawings.
+pub record AtRow (plan : ℕ → Point) (P : Tree → Type 0) (q y : ℕ) : Type 0 where
+  pub within : (r : ℕ) (a : Tree) → Agrees plan (shift 0 r (draw a)) → P a → (q * r ≤ y) × (y < q * (r + height (draw a)))
+
+-- P and Q hold of the same one of the trees, which is drawn from row top on.
+pub record InOneTree (plan : ℕ → Point) (P Q : Tree → Type 0) : Type 0 where
+  pub tree : Tree
+  pub top : ℕ
+  pub fit : Agrees plan (shift 0 top (draw tree))
+  pub one : P tree
+  pub other : Q tree
+
+-- Things at one row are in one tree: another tree ends above it or begins below it.
+module _ (plan : ℕ → Point) where
+  from-row : {P : Tree → Type 0} {q y : ℕ} → AtRow plan P q y → (ts : List Tree) (r : ℕ) → AgreesAll plan (drawFrom r ts) → Among P ts → q * r ≤ y
+  unfolding drawFrom
+  from-row z (a ∷ ts) r fit (here h) = z .within r a (fit .0) h .0
+  from-row z (a ∷ ts) r fit (there h) = omega (arith, from-row z ts (r + height (draw a)) (fit .1) h)
+
+  pub one-row : {P Q : Tree → Type 0} {q y : ℕ} → AtRow plan P q y → AtRow plan Q q y → (ts : List Tree) (r : ℕ) → AgreesAll plan (drawFrom r ts) → Among P ts → Among Q ts → InOneTree plan P Q
+  unfolding drawFrom
+  one-row z w (a ∷ ts) r fit (here h) (here i) = record { tree = a; top = r; fit = fit .0; one = h; other = i }
+  one-row z w (a ∷ ts) r fit (here h) (there i) = absurd (omega (arith, z .within r a (fit .0) h .1, from-row w ts (r + height (draw a)) (fit .1) i))
+  one-row z w (a ∷ ts) r fit (there h) (here i) = absurd (omega (arith, w .within r a (fit .0) i .1, from-row z ts (r + height (draw a)) (fit .1) h))
+  one-row z w (a ∷ ts) r fit (there h) (there i) = one-row z w ts (r + height (draw a)) (fit .1) h i
+
+-- ---- 21 to 25
 
 abbrev pub CheckedAll : List Tree → (ℕ → Point) → Type 0
 CheckedAll ts plan = Conditions (λ k. Among (IsNode k) ts) (λ k c s. Among (Child k c s) ts) plan
@@ -105,24 +133,14 @@ module _ (plan : ℕ → Point) where
     one : P tree
     other : Q tree
 
-  module _ {P : Tree → Type 0} {q x y : ℕ} (z : PointIn P q x y) where
-    -- a tree from row r on
-    in-rows : (r : ℕ) (a : Tree) → Agrees plan (shift 0 r (draw a)) → P a → InWindow 0 (width (draw a)) r (height (draw a)) q x y
-    in-rows r a fit h = shift-within 0 r (draw a) (z .shown (shift 0 r (draw a)) fit (subst P (sym (shape-drawn 0 r a)) h))
+  at-row : {P : Tree → Type 0} {q x y : ℕ} → 1 ≤ q → PointIn P q x y → AtRow plan P q y
+  at-row {P} one z = record { within = λ r a fit h. let w = shift-within 0 r (draw a) (z .shown (shift 0 r (draw a)) fit (subst P (sym (shape-drawn 0 r a)) h)) in (w .from-row, omega (arith, w .to-row)) }
 
-    -- one of several
-    from-row : (ts : List Tree) (r : ℕ) → AgreesAll plan (drawFrom r ts) → Among P ts → q * r ≤ y
-    unfolding drawFrom
-    from-row (a ∷ ts) r fit (here h) = in-rows r a (fit .0) h .from-row
-    from-row (a ∷ ts) r fit (there h) = omega (arith, from-row ts (r + height (draw a)) (fit .1) h)
-
-  -- Things that share a point are in one tree: another tree ends above that row or begins below it.
+  -- Things that share a point are in one tree.
   same-tree : {P Q : Tree → Type 0} {q x y : ℕ} → 1 ≤ q → PointIn P q x y → PointIn Q q x y → (ts : List Tree) (r : ℕ) → AgreesAll plan (drawFrom r ts) → Among P ts → Among Q ts → Together P Q
-  unfolding drawFrom
-  same-tree one z w (a ∷ ts) r fit (here h) (here i) = record { tree = a; checked = shifted-checked 0 r a plan (fit .0); one = h; other = i }
-  same-tree one z w (a ∷ ts) r fit (here h) (there i) = absurd (omega (arith, in-rows z r a (fit .0) h .to-row, from-row w ts (r + height (draw a)) (fit .1) i))
-  same-tree one z w (a ∷ ts) r fit (there h) (here i) = absurd (omega (arith, in-rows w r a (fit .0) i .to-row, from-row z ts (r + height (draw a)) (fit .1) h))
-  same-tree one z w (a ∷ ts) r fit (there h) (there i) = same-tree one z w ts (r + height (draw a)) (fit .1) h i
+  same-tree one z w ts r fit h i =
+      let t = one-row plan (at-row one z) (at-row one w) ts r fit h i in
+      record { tree = t .tree; checked = shifted-checked 0 (t .top) (t .tree) plan (t .fit); one = t .one; other = t .other }
 
 pub trees-checked : (ts : List Tree) (r : ℕ) (plan : ℕ → Point) → AgreesAll plan (drawFrom r ts) → CheckedAll ts plan
 trees-checked ts r plan fit = record {

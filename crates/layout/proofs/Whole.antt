@@ -7,7 +7,7 @@ use native.Mathlib.Nat.{pow-suc}
 use native.Mathlib.Omega.{arith}
 use Rattle.segment.specs.declared.Point.{Point}
 use Rattle.segment.specs.Segment.{at}
-use Rattle.table.specs.Table.{Side, right, left}
+use Rattle.table.specs.Table.{Side, right}
 use Rattle.table.specs.Tree.{Tree, none, node, size}
 use Rattle.layout.specs.Layout.{Layout, blank, placed, width, height}
 use Rattle.layout.specs.Spine.{SpineNode, hangs, spine, Role, switch, opposite, seen, roleAfter, handAfter, Assigned, assigned, rolesAfter, roles, facing}
@@ -18,7 +18,7 @@ use Rattle.layout.proofs.Rows.{shape, count, HoldsRow}
 use Rattle.layout.proofs.Steps.{Knee}
 use Rattle.layout.proofs.Along.{Drawn, turn, Proper, along}
 use Rattle.layout.proofs.Heights.{last, TurnRows, rows}
-use Rattle.layout.proofs.Spines.{hungTree, Light, light-end, light-node, tree-spine, light-spine, size-seen, parts, first-knee, proper, widest-at-most, shaped, spineTree, spine-here}
+use Rattle.layout.proofs.Spines.{hungTree, Light, light-end, light-node, light-spine, size-seen, parts, first-knee, proper, widest-at-most, shaped, spine-whole}
 
 -- ---- one spine
 
@@ -73,7 +73,7 @@ module _ (d : Tree → Layout) (t : Tree) (hd : (S : Tree) → 2 * size S + 1 �
       kn = along W 0 0 0 roles-proper (omega arith)
 
       same : shape N ≡ t
-      same = shaped (size t) W d hd right switch light 0 0 0 ∙ (ap spineTree (spine-here t) ∙ tree-spine left t)
+      same = shaped (size t) W d hd right switch light 0 0 0 ∙ spine-whole t
 
       filled : (j : ℕ) → j < height N → HoldsRow N j
       filled zero h = top-row N (kn .stands .root) h
