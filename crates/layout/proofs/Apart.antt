@@ -88,7 +88,7 @@ spread-flip {plan} s a b u e w f n = record {
 
 -- ---- along a spine
 
--- A spine node is in row r or below; down to row H there is only the first one, in column c.
+-- A spine node is in row r or below, within the frame; down to row H there is only the first one, in column c.
 pub record From (W c H r : ℕ) (Q : Point) : Type 0 where
   pub from : r ≤ Q .row
   pub first : Q .row ≤ H → Q .column ≡ c

@@ -42,6 +42,7 @@ pub record Moved (s : Side) (a b u : ℕ) (Q P : Point) : Type 0 where
   pub in-column : Column s a b (Q .column) (P .column)
   pub in-row : Q .row ≡ u + P .row
 
+-- The plan gives each node's record its point, so moved.
 pub data Shown (plan : ℕ → Point) (s : Side) (a b u : ℕ) : Layout → Type 0 where
   shows-none : Shown plan s a b u blank
   shows-node : {k : ℕ} {P : Point} {L M : Layout} → Moved s a b u (plan k) P → Shown plan s a b u L → Shown plan s a b u M → Shown plan s a b u (placed k P L M)
