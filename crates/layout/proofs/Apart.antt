@@ -16,7 +16,7 @@ use Rattle.layout.proofs.Rows.{shape}
 use Rattle.layout.proofs.Along.{Stretch, turn, run, Proper, ended, a-knee, an-ordinary, a-switch, Reached}
 use Rattle.layout.proofs.Heights.{PendingRow}
 use Rattle.layout.proofs.Spines.{place-wide}
-use Rattle.layout.proofs.Shown.{less, more, Moved, moved-back, Shown, shown-flip, join-shown, hung-rows, in-hung}
+use Rattle.layout.proofs.Shown.{less, more, Moved, NodeAt, moved-flip, Shown, shown-flip, join-shown, hung-rows, in-hung}
 
 -- ---- the parts of a spine
 
@@ -24,12 +24,6 @@ use Rattle.layout.proofs.Shown.{less, more, Moved, moved-back, Shown, s
 pub data PartOf (k : ℕ) (D : Layout) : List Part → Type 0 where
   first-part : {o : Role} {s : Side} {ps : List Part} → PartOf k D (part o k s D ∷ ps)
   later-part : {q : Part} {ps : List Part} → PartOf k D ps → PartOf k D (q ∷ ps)
-
--- The point of a spine node, for which A holds.
-pub record NodeAt (s : Side) (a b u : ℕ) (A : Point → Type 0) (Q : Point) : Type 0 where
-  pub P : Point
-  pub moved : Moved s a b u Q P
-  pub is : A P
 
 -- The law, of the parts of a spine.
 pub record SpineApart (plan : ℕ → Point) (ps : List Part) : Type 0 where
@@ -82,7 +76,7 @@ spread-flip : {plan : ℕ → Point} (s : Side) (a b u e : ℕ) {A A′ : Point 
     ((P : Point) → A P → A′ (at (e - P .column) (P .row))) → Spread plan (opposite s) (less s a e) (more s b e) u A R ps → Spread plan s a b u A′ R ps
 spread-flip {plan} s a b u e w f n = record {
   law = n .law;
-  node = λ {k} q. let z = n .node q in record { P = at (e - z .P .column) (z .P .row); moved = moved-back s a b u e (plan k) (z .P) (w (z .P) (z .is)) (z .moved); is = f (z .P) (z .is) };
+  node = λ {k} q. let z = n .node q in record { P = at (e - z .P .column) (z .P .row); moved = moved-flip s a b u e (plan k) (z .P) (w (z .P) (z .is)) .1 (z .moved); is = f (z .P) (z .is) };
   hung = n .hung;
 }
 

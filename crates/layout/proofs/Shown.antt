@@ -2,7 +2,7 @@
 -- (`shown-shift`, `shown-flip`), and so tells the rows and the rectangle of a drawing at its place (`hung-rows`, `in-hung`). Where something is moved to is said by sums alone, so that no edge of
 -- the sheet is in the way.
 use mathlib.Core.Path.{_≡_, ap}
-use mathlib.Core.Logic.{⊎-elim}
+use mathlib.Core.Logic.{_↔_, ⊎-elim}
 use Prim.Native.Nat.{ℕ, _+_, _-_, _≤_, _<_}
 use native.Mathlib.Omega.{arith}
 use lib.Dec.{T}
@@ -42,6 +42,12 @@ pub record Moved (s : Side) (a b u : ℕ) (Q P : Point) : Type 0 where
   pub in-column : Column s a b (Q .column) (P .column)
   pub in-row : Q .row ≡ u + P .row
 
+-- Q is a point for which A holds, so moved.
+pub record NodeAt (s : Side) (a b u : ℕ) (A : Point → Type 0) (Q : Point) : Type 0 where
+  pub P : Point
+  pub moved : Moved s a b u Q P
+  pub is : A P
+
 -- The plan gives each node's record its point, so moved.
 pub data Shown (plan : ℕ → Point) (s : Side) (a b u : ℕ) : Layout → Type 0 where
   shows-none : Shown plan s a b u blank
@@ -65,39 +71,34 @@ unfolding shift
 shown-shift e t blank h = shows-none
 shown-shift {plan} {s} {a} {b} {u} e t (placed k P L M) (shows-node m h i) = shows-node (moved-shift s a b u e t (plan k) P m) (shown-shift e t L h) (shown-shift e t M i)
 
-moved-flip : (s : Side) (a b u e : ℕ) (Q P : Point) → P .column ≤ e → Moved s a b u Q (at (e - P .column) (P .row)) → Moved (opposite s) (less s a e) (more s b e) u Q P
+-- There and back.
+pub moved-flip : (s : Side) (a b u e : ℕ) (Q P : Point) → P .column ≤ e → Moved s a b u Q (at (e - P .column) (P .row)) ↔ Moved (opposite s) (less s a e) (more s b e) u Q P
 unfolding opposite
-moved-flip left a b u e Q P w m = record { in-column = omega (arith, m .in-column); in-row = m .in-row }
-moved-flip right a b u e Q P w m = record { in-column = omega (arith, m .in-column); in-row = m .in-row }
-
-pub moved-back : (s : Side) (a b u e : ℕ) (Q P : Point) → P .column ≤ e → Moved (opposite s) (less s a e) (more s b e) u Q P → Moved s a b u Q (at (e - P .column) (P .row))
-unfolding opposite
-moved-back left a b u e Q P w m = record { in-column = omega (arith, m .in-column); in-row = m .in-row }
-moved-back right a b u e Q P w m = record { in-column = omega (arith, m .in-column); in-row = m .in-row }
+moved-flip left a b u e Q P w =
+    (λ m. record { in-column = omega (arith, m .in-column); in-row = m .in-row }, λ m. record { in-column = omega (arith, m .in-column); in-row = m .in-row })
+moved-flip right a b u e Q P w =
+    (λ m. record { in-column = omega (arith, m .in-column); in-row = m .in-row }, λ m. record { in-column = omega (arith, m .in-column); in-row = m .in-row })
 
 pub shown-flip : {plan : ℕ → Point} {s : Side} {a b u : ℕ} (e : ℕ) (L : Layout) → width L ≤ e + 1 → Shown plan s a b u (flip e L) → Shown plan (opposite s) (less s a e) (more s b e) u L
 unfolding flip width
 shown-flip e blank w h = shows-none
 shown-flip {plan} {s} {a} {b} {u} e (placed k P L M) w (shows-node m h i) =
-    shows-node (moved-flip s a b u e (plan k) P (omega arith) m) (shown-flip e L (omega arith) i) (shown-flip e M (omega arith) h)
+    shows-node (moved-flip s a b u e (plan k) P (omega arith) .0 m) (shown-flip e L (omega arith) i) (shown-flip e M (omega arith) h)
 
--- Its nodes.
-record Found (plan : ℕ → Point) (s : Side) (a b u k : ℕ) (L : Layout) : Type 0 where
-  P : Point
-  moved : Moved s a b u (plan k) P
-  wide : P .column < width L
-  high : P .row < height L
+-- Its nodes are within its extents.
+abbrev InExtents : Layout → Point → Type 0
+InExtents L P = (P .column < width L) × (P .row < height L)
 
-found : {plan : ℕ → Point} {s : Side} {a b u : ℕ} (k : ℕ) (L : Layout) → Shown plan s a b u L → T (member k (nodes (shape L))) → Found plan s a b u k L
+found : {plan : ℕ → Point} {s : Side} {a b u : ℕ} (k : ℕ) (L : Layout) → Shown plan s a b u L → T (member k (nodes (shape L))) → NodeAt s a b u (InExtents L) (plan k)
 unfolding member nodes shape width height
 found k blank h n = absurd n
 found {plan} {s} {a} {b} {u} k (placed j P L M) (shows-node m h i) n = ⊎-elim
-    (λ (e : k ≡ j). record { P = P; moved = rw e m; wide = omega arith; high = omega arith })
-    (⊎-elim (λ (c : T (member k (nodes (shape L)))). wider (found k L h c) (omega arith) (omega arith)) (λ (c : T (member k (nodes (shape M)))). wider (found k M i c) (omega arith) (omega arith)))
+    (λ (e : k ≡ j). record { P = P; moved = rw e m; is = (omega arith, omega arith) })
+    (⊎-elim (λ (c : T (member k (nodes (shape L)))). wider L (found k L h c) (omega arith) (omega arith)) (λ (c : T (member k (nodes (shape M)))). wider M (found k M i c) (omega arith) (omega arith)))
     (nodes-cases k j (shape L) (shape M) n)
   where
-    wider : {N : Layout} → Found plan s a b u k N → width N ≤ width (placed j P L M) → height N ≤ height (placed j P L M) → Found plan s a b u k (placed j P L M)
-    wider z v w = record { P = z .P; moved = z .moved; wide = omega (arith, z .wide); high = omega (arith, z .high) }
+    wider : (N : Layout) → NodeAt s a b u (InExtents N) (plan k) → width N ≤ width (placed j P L M) → height N ≤ height (placed j P L M) → NodeAt s a b u (InExtents (placed j P L M)) (plan k)
+    wider N z v w = record { P = z .P; moved = z .moved; is = (omega (arith, z .is .0), omega (arith, z .is .1)) }
 
 -- A spine node, what hangs from it, and the rest.
 pub record JoinShown (plan : ℕ → Point) (s : Side) (a b u k : ℕ) (P : Point) (D N : Layout) : Type 0 where
@@ -123,12 +124,12 @@ module _ {plan : ℕ → Point} {s : Side} {a b u : ℕ} (e t : ℕ) (D : Layout
   hung-rows o =
       let l = found (o .one) D (shown-shift e t D h) (o .one-node) in
       let g = found (o .other) D (shown-shift e t D h) (o .other-node) in
-      (omega (arith, o .from, l .moved .in-row), omega (arith, o .to, g .moved .in-row, g .high))
+      (omega (arith, o .from, l .moved .in-row), omega (arith, o .to, g .moved .in-row, g .is .1))
 
   pub in-hung : {Q P : Point} → Moved s a b u Q P → InRectangle plan (shape D) Q → InWindow e (width D) t (height D) 1 (P .column) (P .row)
   in-hung {Q} {P} m z =
       let r = hung-rows (z .0) in
       let l = found (z .1 .one) D (shown-shift e t D h) (z .1 .one-node) in
       let g = found (z .1 .other) D (shown-shift e t D h) (z .1 .other-node) in
-      let c = hung-columns s a b e (width D) (Q .column) (P .column) (l .moved .in-column) (g .moved .in-column) (l .wide) (g .wide) (z .1 .from) (z .1 .to) (m .in-column) in
+      let c = hung-columns s a b e (width D) (Q .column) (P .column) (l .moved .in-column) (g .moved .in-column) (l .is .0) (g .is .0) (z .1 .from) (z .1 .to) (m .in-column) in
       record { from-column = omega (arith, c .0); to-column = omega (arith, c .1); from-row = omega (arith, m .in-row); to-row = omega (arith, m .in-row) }

@@ -126,39 +126,33 @@ module _ (plan : ℕ → Point) where
   parent-in : (k c : ℕ) (s : Side) → PointIn (Child k c s) 1 (1 * plan k .column) (1 * plan k .row)
   parent-in k c s = edge-in k c s (at-start (plan k) (plan c) 1)
 
-  -- P and Q hold of the same one of the trees.
-  record Together (P Q : Tree → Type 0) : Type 0 where
-    tree : Tree
-    checked : Checked tree plan
-    one : P tree
-    other : Q tree
-
   at-row : {P : Tree → Type 0} {q x y : ℕ} → 1 ≤ q → PointIn P q x y → AtRow plan P q y
   at-row {P} one z = record { within = λ r a fit h. let w = shift-within 0 r (draw a) (z .shown (shift 0 r (draw a)) fit (subst P (sym (shape-drawn 0 r a)) h)) in (w .from-row, omega (arith, w .to-row)) }
 
-  -- Things that share a point are in one tree.
-  same-tree : {P Q : Tree → Type 0} {q x y : ℕ} → 1 ≤ q → PointIn P q x y → PointIn Q q x y → (ts : List Tree) (r : ℕ) → AgreesAll plan (drawFrom r ts) → Among P ts → Among Q ts → Together P Q
-  same-tree one z w ts r fit h i =
-      let t = one-row plan (at-row one z) (at-row one w) ts r fit h i in
-      record { tree = t .tree; checked = shifted-checked 0 (t .top) (t .tree) plan (t .fit); one = t .one; other = t .other }
+  -- Things that share a point are in one tree, which is checked.
+  same-tree : {P Q : Tree → Type 0} {q x y : ℕ} → 1 ≤ q → PointIn P q x y → PointIn Q q x y → (ts : List Tree) (r : ℕ) → AgreesAll plan (drawFrom r ts) → Among P ts → Among Q ts → InOneTree plan P Q
+  same-tree one z w = one-row plan (at-row one z) (at-row one w)
+
+  checked : {P Q : Tree → Type 0} (t : InOneTree plan P Q) → Checked (t .tree) plan
+  checked t = shifted-checked 0 (t .top) (t .tree) plan (t .fit)
 
 pub trees-checked : (ts : List Tree) (r : ℕ) (plan : ℕ → Point) → AgreesAll plan (drawFrom r ts) → CheckedAll ts plan
 trees-checked ts r plan fit = record {
   distinct = λ k m h i d e.
       let t = same-tree plan (omega arith) (node-in plan k 1) (rw e (node-in plan m 1)) ts r fit h i in
-      t .checked .distinct k m (t .one) (t .other) d e;
+      checked plan t .distinct k m (t .one) (t .other) d e;
   lower = λ k c s h.
       let t = same-tree plan (omega arith) (parent-in plan k c s) (parent-in plan k c s) ts r fit h h in
-      t .checked .lower k c s (t .one);
+      checked plan t .lower k c s (t .one);
   planar = λ k c m d s u h i ne q x y one o p.
       let t = same-tree plan one (edge-in plan k c s o) (edge-in plan m d u p) ts r fit h i in
-      t .checked .planar k c m d s u (t .one) (t .other) ne q x y one o p;
+      checked plan t .planar k c m d s u (t .one) (t .other) ne q x y one o p;
   clear = λ b k c s h i q one o.
       let t = same-tree plan one (node-in plan b q) (edge-in plan k c s o) ts r fit h i in
-      t .checked .clear b k c s (t .one) (t .other) q one o;
+      checked plan t .clear b k c s (t .one) (t .other) q one o;
   ordered = λ k a b h i.
       let t = same-tree plan (omega arith) (parent-in plan k a left) (parent-in plan k b right) ts r fit h i in
-      t .checked .ordered k a b (t .one) (t .other);
+      checked plan t .ordered k a b (t .one) (t .other);
 }
 
 -- ---- rows

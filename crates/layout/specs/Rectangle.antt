@@ -45,7 +45,7 @@ pub record SpinesApart (plan : ℕ → Point) (a : Tree) : Type 0 where
   pub outside : {S U U′ : Tree} {k m : ℕ} → DrawnIn a S → Hangs k U (roles (spine S)) → Hangs m U′ (roles (spine S)) → InRectangle plan U′ (plan k) → ⊥
 
 -- "When I cover a branch with a ruler I want nothing of its neighbour beneath it." A branch is a tree U that is drawn in the drawing of a, a itself too. Beneath a ruler over its rows a node b may be:
--- one of its own, or one of a spine along which one comes to it, of a tree S in whose drawing U is.
+-- one of its own, or one of a spine along which one comes to it, of a tree S in whose drawing U is, before U or after it; so none of another branch. (Of lines: docs/GROUNDS.md, "The ruler".)
 pub data Beneath (a : Tree) (b : ℕ) (U : Tree) : Type 0 where
   inside : T (member b (nodes U)) → Beneath a b U
   beside : {S U′ : Tree} → DrawnIn a S → DrawnIn S U → Hangs b U′ (roles (spine S)) → Beneath a b U
