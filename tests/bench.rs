@@ -1,14 +1,31 @@
-// Times draw, wide draw and check, of one tree and of several, strokes, hang, cut, the halves of a hang, the comparison of two lines and the whole program beside the
-// Rust reference, and wide draw beside draw, in one run.
+// Times draw, wide draw and check, of one tree and of several, strokes, hang, cut, the halves of a hang, the comparison of two lines and the whole program
+// beside the Rust reference, and wide draw beside draw, in one run. An error if, at 4,096 nodes, a wide draw takes more than 1.5 times as long as our plain
+// draw, or the check of a good sheet more than 8 times as long as the reference's.
 //   bench PLAN REFERENCE FOLDER: the two programs, and a folder for the tables
 mod oracle;
-use oracle::reference::cases::{fault_shapes, timed_fault, timed_forest, timed_pairs, timed_room, timed_sheet, timed_table, FAULTS, SHAPES, SHEETS};
+use oracle::reference::cases::{fault_shapes, sheet_shapes, timed_fault, timed_forest, timed_pairs, timed_room, timed_sheet, timed_table};
+use oracle::reference::cases::{FAULTS, SHAPES, SHEETS};
 use oracle::reference::Reference;
 use oracle::{ours, UPTO};
 use std::fs::File;
 use std::hint::black_box;
 use std::process::{Command, Stdio};
 use std::time::Instant;
+
+/// A wide draw of 4,096 nodes may take so many times as long as our plain draw.
+const WIDE_ALLOWED: f64 = 1.5;
+
+/// The check of a good sheet of 4,096 nodes may take so many times as long as the reference's.
+const CHECK_ALLOWED: f64 = 8.0;
+
+/// The bytes of a table of 4,096 nodes.
+const LARGE: usize = 8 * 4097;
+
+/// The greatest ratios so far at 4,096 nodes: of our wide draw to our draw, and of our check of a good sheet to the reference's.
+struct Most {
+    wide: f64,
+    check: f64,
+}
 
 /// The least times of two things in microseconds, each run in turn for a while and thrice at least, often enough at a time to be measured.
 /// By a steady clock: other work on the machine only adds.
@@ -90,30 +107,81 @@ fn changes(theirs: &mut Reference, n: usize, free: usize) -> String {
 }
 
 /// The times of a check.
-fn checks(theirs: &mut Reference, table: &[u8], places: &[u16], verdict: u32) -> String {
+fn checks(theirs: &mut Reference, most: &mut Most, table: &[u8], places: &[u16], verdict: u32) -> String {
     assert_eq!((ours::check(table, places), theirs.check(table, places)), (verdict, verdict));
-    row("check", two(
+    let t = two(
         || { black_box(ours::check(black_box(table), places)); },
-        || { black_box(theirs.check(black_box(table), places)); }))
+        || { black_box(theirs.check(black_box(table), places)); });
+    if verdict == 0 && table.len() == LARGE {
+        most.check = f64::max(most.check, t.0 / t.1);
+    }
+    row("check", t)
+}
+
+/// The times of a draw and a wide draw, and the drawing.
+fn draws(theirs: &mut Reference, table: &[u8]) -> (String, Vec<u16>) {
+    let mut places = vec![0u16; table.len() / 4];
+    let (mut widely, mut other) = (places.clone(), places.clone());
+    assert_eq!(ours::draw_wide(table, &mut widely), theirs.draw_wide(table, &mut other));
+    assert_eq!(widely, other);
+    assert_eq!(ours::draw(table, &mut places), theirs.draw(table, &mut other));
+    assert_eq!(places, other);
+    let drawn = places.clone();
+    let plain = two(
+        || { black_box(ours::draw(black_box(table), &mut places)); },
+        || { black_box(theirs.draw(black_box(table), &mut other)); });
+    let wide = two(
+        || { black_box(ours::draw_wide(black_box(table), &mut widely)); },
+        || { black_box(theirs.draw_wide(black_box(table), &mut other)); });
+    (row("draw", plain) + &row("wide", wide), drawn)
+}
+
+/// The times of a draw and a wide draw of one tree, of our wide draw beside our draw, and of a check.
+fn one_tree(theirs: &mut Reference, most: &mut Most, table: &[u8]) -> String {
+    let (line, drawn) = draws(theirs, table);
+    let (mut places, mut widely) = (drawn.clone(), drawn.clone());
+    let t = two(
+        || { black_box(ours::draw_wide(black_box(table), &mut widely)); },
+        || { black_box(ours::draw(black_box(table), &mut places)); });
+    if table.len() == LARGE {
+        most.wide = f64::max(most.wide, t.0 / t.1);
+    }
+    line + &row("to draw", t) + &checks(theirs, most, table, &drawn, 0)
+}
+
+/// The times of the two programs on a table, which is put into a file.
+fn programs(plan: &str, reference: &str, file: &str, table: &[u8]) -> String {
+    std::fs::write(file, table).unwrap();
+    row("program", two(|| run(plan, file), || run(reference, file)))
 }
 
 /// The times of a draw, a wide draw and a check of several trees, and of a check of them side by side.
-fn forests(theirs: &mut Reference, n: usize, trees: usize) -> String {
+fn forests(theirs: &mut Reference, most: &mut Most, n: usize, trees: usize) -> String {
     let (table, beside) = timed_forest(n, trees);
-    let mut places = vec![0u16; 2 * (n + 1)];
-    let (mut widely, mut other) = (places.clone(), places.clone());
-    assert_eq!(ours::draw_wide(&table, &mut widely), theirs.draw_wide(&table, &mut other));
-    assert_eq!(widely, other);
-    assert_eq!(ours::draw(&table, &mut places), theirs.draw(&table, &mut other));
-    assert_eq!(places, other);
-    let drawn = places.clone();
-    let draws = two(
-        || { black_box(ours::draw(black_box(&table), &mut places)); },
-        || { black_box(theirs.draw(black_box(&table), &mut other)); });
-    let wides = two(
-        || { black_box(ours::draw_wide(black_box(&table), &mut widely)); },
-        || { black_box(theirs.draw_wide(black_box(&table), &mut other)); });
-    row("draw", draws) + &row("wide", wides) + &checks(theirs, &table, &drawn, 0) + " side by side" + &checks(theirs, &table, &beside, 0)
+    let (line, drawn) = draws(theirs, &table);
+    line + &checks(theirs, most, &table, &drawn, 0) + " side by side" + &checks(theirs, most, &table, &beside, 0)
+}
+
+/// Prints the times of checks of sheets that are not drawings of ours.
+fn sheets(theirs: &mut Reference, most: &mut Most) {
+    println!("sheets that the drawer did not make");
+    for n in [64, 512, 4096] {
+        for sheet in SHEETS {
+            for shape in sheet_shapes(sheet) {
+                let (table, places) = timed_sheet(sheet, shape, n);
+                println!("{n:>4} {sheet:<18}{shape:<12}{}", checks(theirs, most, &table, &places, 0));
+            }
+        }
+    }
+    println!("sheets whose lines cross or touch");
+    for n in [512, 4096] {
+        for sheet in FAULTS {
+            for shape in fault_shapes(sheet) {
+                let (table, places, verdict) = timed_fault(sheet, shape, n);
+                println!("{n:>4} {sheet:<18}{shape:<12}{}", checks(theirs, most, &table, &places, verdict));
+            }
+        }
+    }
 }
 
 /// The times of a comparison of two lines, in nanoseconds, in the mean of a thousand.
@@ -125,61 +193,28 @@ fn comparisons(theirs: &Reference) -> String {
         || for &ends in &pairs { black_box(theirs.compare(black_box(ends))); }))
 }
 
-/// A wide draw of 4,096 nodes may take so many times as long as our plain draw.
-const WIDE_ALLOWED: f64 = 1.5;
-
 fn main() {
     let args: Vec<String> = std::env::args().collect();
     let (plan, reference, folder) = (&args[1], &args[2], &args[3]);
     println!("least microseconds: ours, the Rust reference, and the ratio; to draw: our wide draw, our draw, and the ratio");
-    let mut theirs = Reference::new();
-    let mut most = 0.0;
+    let (mut theirs, mut most) = (Reference::new(), Most { wide: 0.0, check: 0.0 });
     for n in [64, 512, 4096] {
         for shape in SHAPES {
-            let table = timed_table(shape, n);
-            let mut places = vec![0u16; 2 * (n + 1)];
-            let mut other = places.clone();
-            assert_eq!(ours::draw(&table, &mut places), theirs.draw(&table, &mut other));
-            assert_eq!(places, other);
-            let mut widely = places.clone();
-            assert_eq!(ours::draw_wide(&table, &mut widely), theirs.draw_wide(&table, &mut other));
-            assert_eq!(widely, other);
-            let drawn = places.clone();
-            let mut line = format!("{n:>4} {shape:<12}");
-            let t = two(
-                || { black_box(ours::draw(black_box(&table), &mut places)); },
-                || { black_box(theirs.draw(black_box(&table), &mut other)); });
-            line += &row("draw", t);
-            let t = two(
-                || { black_box(ours::draw_wide(black_box(&table), &mut widely)); },
-                || { black_box(theirs.draw_wide(black_box(&table), &mut other)); });
-            line += &row("wide", t);
-            let t = two(
-                || { black_box(ours::draw_wide(black_box(&table), &mut widely)); },
-                || { black_box(ours::draw(black_box(&table), &mut places)); });
-            line += &row("to draw", t);
-            if n == 4096 {
-                most = f64::max(most, t.0 / t.1);
-            }
-            line += &checks(&mut theirs, &table, &drawn, 0);
-            let file = format!("{folder}/{n}-{}.table", shape.replace(' ', "-"));
-            std::fs::write(&file, &table).unwrap();
-            let t = two(|| run(plan, &file), || run(reference, &file));
-            line += &row("program", t);
-            println!("{line}");
+            let (table, file) = (timed_table(shape, n), format!("{folder}/{n}-{}.table", shape.replace(' ', "-")));
+            let line = one_tree(&mut theirs, &mut most, &table) + &programs(plan, reference, &file, &table);
+            println!("{n:>4} {shape:<12}{line}");
         }
     }
     println!("several trees");
     for n in [64, 512, 4096] {
         for trees in [n / 64, n / 8, n].into_iter().filter(|&trees| trees > 1) {
-            println!("{n:>4} in {trees:>4} trees{}", forests(&mut theirs, n, trees));
+            println!("{n:>4} in {trees:>4} trees{}", forests(&mut theirs, &mut most, n, trees));
         }
     }
     println!("strokes of drawn sheets");
     for n in [64, 512, 4096] {
         for shape in SHAPES {
-            let table = timed_table(shape, n);
-            let mut places = vec![0u16; 2 * (n + 1)];
+            let (table, mut places) = (timed_table(shape, n), vec![0u16; 2 * (n + 1)]);
             ours::draw(&table, &mut places);
             println!("{n:>4} {shape:<12}{}", strokes(&mut theirs, &table, &places));
         }
@@ -190,25 +225,9 @@ fn main() {
             println!("{n:>4} {what:<18}{}", changes(&mut theirs, n, free));
         }
     }
-    println!("sheets that the drawer did not make");
-    for n in [64, 512, 4096] {
-        for sheet in SHEETS {
-            for shape in if sheet == "slanting" { &["comb"][..] } else { &SHAPES[..] } {
-                let (table, places) = timed_sheet(sheet, shape, n);
-                println!("{n:>4} {sheet:<16}{shape:<12}{}", checks(&mut theirs, &table, &places, 0));
-            }
-        }
-    }
-    println!("sheets whose lines cross or touch");
-    for n in [512, 4096] {
-        for sheet in FAULTS {
-            for shape in fault_shapes(sheet) {
-                let (table, places, verdict) = timed_fault(sheet, shape, n);
-                println!("{n:>4} {sheet:<18}{shape:<12}{}", checks(&mut theirs, &table, &places, verdict));
-            }
-        }
-    }
+    sheets(&mut theirs, &mut most);
     println!("two lines, least nanoseconds in the mean{}", comparisons(&theirs));
-    println!("wide draw of 4096 nodes: up to {most:.2} times our draw, allowed {WIDE_ALLOWED}");
-    std::process::exit((most > WIDE_ALLOWED) as i32);
+    println!("wide draw of 4096 nodes: up to {:.2} times our draw, allowed {WIDE_ALLOWED}", most.wide);
+    println!("check of good sheets of 4096 nodes: up to {:.2} times the reference, allowed {CHECK_ALLOWED}", most.check);
+    std::process::exit((most.wide > WIDE_ALLOWED || most.check > CHECK_ALLOWED) as i32);
 }

@@ -2,7 +2,7 @@
 // sheet, table and pair of lines.
 //   compare SEED CASES FOLDER: a share of the calls goes to FOLDER/share for the Python reference, a difference to FOLDER.
 mod oracle;
-use oracle::ours;
+use oracle::{ours, sweep};
 use oracle::reference::cases::{every_pair, every_small_table, every_table, far_pairs, Case, Cases, Change};
 use oracle::reference::{reference_width, Reference};
 use std::fs;
@@ -17,17 +17,19 @@ struct Run {
     calls: u64,
     shared: u64,
     differences: u64,
+    good: u64,
+    unclear: u64,
     answers: [[u64; 32]; CALLS.len()],
 }
 
-/// The calls whose answers are counted; checks of sheets with many level lines, of ones whose lines cross and touch, of every small sheet, of several trees and of
-/// nodes put on lines, draws and wide draws of several trees, calls on every small table, and comparisons of every pair of lines on small grids or far apart, by
+/// The calls whose answers are counted; checks of sheets with many level lines, of ones whose lines cross and touch, of every small sheet, of several trees, of
+/// nodes put on lines and of long lines, draws and wide draws of several trees, calls on every small table, and comparisons of every pair of lines on small grids or far apart, by
 /// themselves.
-const CALLS: [&str; 22] = [
+const CALLS: [&str; 23] = [
     "draw", "wide", "check", "stroke", "check of level lines", "check of every small sheet", "hang", "cut", "hold", "hang held", "draw of every small table",
     "hang of every small table", "cut of every small table", "hold of every small table", "hang held of every small table",
     "check of tangled sheets", "compare", "compare of every pair", "draw of several trees", "wide of several trees", "check of several trees",
-    "check of nodes put on lines",
+    "check of nodes put on lines", "check of long lines",
 ];
 const DRAW: usize = 0;
 const WIDE: usize = 1;
@@ -47,6 +49,7 @@ const TREES_DRAW: usize = 18;
 const TREES_WIDE: usize = 19;
 const TREES_CHECK: usize = 20;
 const ON_LINES: usize = 21;
+const LONG: usize = 22;
 
 /// A hang, a cut or a half of a hang of every small table is counted so many places behind HANG, CUT, HOLD or HELD.
 const SMALL: usize = 5;
@@ -146,6 +149,17 @@ impl Run {
         self.answers[call][b as usize] += 1;
         self.to_share(b'c', table, places, a as u64, &[]);
         self.judge(a == b, format!("check: ours {a}, reference {b}"), table, places);
+        if b == 0 || b >= 21 {
+            self.sweep(table, places, b);
+        }
+    }
+
+    /// Does the sweep over neighbours clear a good sheet? It need not; but it never clears one whose lines clash.
+    fn sweep(&mut self, table: &[u8], places: &[u16], verdict: u32) {
+        let clear = sweep::clears(&mut self.reference.lines(table, places));
+        self.good += (verdict == 0) as u64;
+        self.unclear += (verdict == 0 && !clear) as u64;
+        self.must(!clear || verdict != 23 && verdict != 25, format!("sweep: clear, reference {verdict}"), table, places);
     }
 
     /// Two lines compared. For the other reference: their ends, for placements.
@@ -375,7 +389,7 @@ fn main() {
     let share = fs::File::create(format!("{folder}/share")).unwrap();
     let mut run = Run {
         seed, folder, reference: Reference::new(), share,
-        sharing: false, calls: 0, shared: 0, differences: 0, answers: [[0; 32]; CALLS.len()],
+        sharing: false, calls: 0, shared: 0, differences: 0, good: 0, unclear: 0, answers: [[0; 32]; CALLS.len()],
     };
     let mut cases = Cases::new(seed);
     for i in 0..count {
@@ -387,6 +401,10 @@ fn main() {
             run.compare(COMPARE, cases.pair());
         }
         run.any(cases.seed());
+        if i % 20 == 0 {
+            let (table, places) = cases.long_lines();
+            run.check(LONG, &table, &places);
+        }
     }
     for n in [1, 2, 3, 10, 30, 100, 1000, 4096] {
         run.sharing = n < 100;
@@ -408,6 +426,7 @@ fn main() {
         let told: Vec<String> = (0..32).filter(|&k| answers[k] > 0).map(|k| format!("{}: {}", name(k), answers[k])).collect();
         println!("  {call} {}", told.join(", "));
     }
+    println!("{} good sheets, of which the sweep over neighbours does not clear {}", run.good, run.unclear);
     println!("{} of them go to racksheet.py", run.shared);
     std::process::exit((run.differences > 0) as i32);
 }

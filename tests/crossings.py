@@ -292,3 +292,50 @@ def planted(t, tree, record, rng):
         for move, verdict in zip(moves, verdicts):
             checked(t, [move], verdict)
         checked(t, moves, 23)
+
+
+def comb(n):
+    """A path that goes to the left, with a leaf on the right of each node."""
+    return trees.split(n, lambda m, d: m - min(1, m))
+
+
+def slanting(tree, distances):
+    """The path goes down to the left, and each leaf hangs from it to the right, as many columns and rows away as the next distance says."""
+    points, at, row = [(0, 0)] * (tree.n + 1), 1, 0
+    while at:
+        points[at] = tree.n - row, row
+        if tree.right[at]:
+            far = next(distances)
+            points[tree.right[at]] = tree.n - row + far, row + far
+        at, row = tree.left[at], row + 1
+    return points
+
+
+def on_another(tree, points, rng):
+    """A leaf, and a point on the line to another leaf or beside it."""
+    leaves = [c for c in tree.right if c]
+    parent = {c: v for v, c in enumerate(tree.right) if c}
+    a, b = rng.sample(leaves, 2)
+    (x, y), (p, q) = points[parent[b]], points[b]
+    far = rng.randint(1, q - y)
+    return a, (x + far + rng.choice((-1, 0, 0, 1)), y + far)
+
+
+def long_lines(t, rng):
+    """Large sheets whose lines overlap in columns and in rows: good ones, and with a leaf moved onto another line or across some, until each verdict was met twice."""
+    for n, most, even in ((90, 500, True), (200, 30000, False), (400, 30000, False)):
+        tree = comb(n)
+        data, record = trees.table(tree, rng)
+        points = slanting(tree, iter(lambda: most if even else rng.randint(1, most), 0))
+        t.name('%d nodes, lines %s' % (n, 'of one length' if even else 'of random lengths'))
+        t.table(data)
+        t.numbers(trees.stored(points, record, n + 1))
+        t.check()
+        assert t.lines[-1] == 'check 0'
+        left = {0: 2, 23: 2, 25: 2}
+        while any(left.values()):
+            v, point = on_another(tree, points, rng)
+            verdict = racksheet.check(t.bytes, trees.stored(points[:v] + [point] + points[v + 1:], record, n + 1), UPTO)
+            if left.get(verdict):
+                left[verdict] -= 1
+                checked(t, [(record[v], point)], verdict)

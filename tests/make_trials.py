@@ -650,6 +650,7 @@ def parts(t):
         ('random pairs of lines', lambda: crossings.random_pairs(t, seeded('pairs'), 600)),
         ('crossings and touches', lambda: crossings.sheets(t)),
         ('nodes on one straight line', lambda: crossings.straight(t, seeded('straight'))),
+        ('long lines', lambda: crossings.long_lines(t, seeded('long lines'))),
         ('random checks of crossings and touches', lambda: random_checks(t, seeded('crossings'), 300, crossings.sheet_case)),
         ('random checks', lambda: random_checks(t, seeded('checks'), 400, check_case)),
         ('random checks of level lines', lambda: random_checks(t, seeded('level lines'), 300, level_case)),

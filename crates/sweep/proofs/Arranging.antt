@@ -1,5 +1,5 @@
 -- Lines seen along an axis, and in another order: the worst meeting is the same. Rests on Grades, on the laws of the four kinds and on those of rearrangements.
-use mathlib.Core.Path.{_≡_, refl, ap, _∙_, subst, subst₂}
+use mathlib.Core.Path.{_≡_, refl, ap, sym, _∙_, subst, subst₂}
 use mathlib.Core.Logic.{_⊎_, inl, inr, ⊎-map, ⊎-swap}
 use mathlib.Core.Bool.{Bool, true, false}
 use mathlib.Core.List.{List}
@@ -13,12 +13,12 @@ use Rattle.segment.specs.declared.meeting.Meeting.{Meeting}
 use Rattle.segment.specs.inner.Test.{number}
 use Rattle.segment.proofs.Alike.{Alike, alike-same, alike-then, alike-back, alike-exchange, alike-turn-first, alike-transpose}
 use Rattle.segment.proofs.FourKinds.{alike-kind}
-use Rattle.sort.specs.inner.Order.{Rearranged}
+use Rattle.sort.specs.inner.Order.{Rearranged, Ascending}
 use Rattle.sort.proofs.Rearranging.{turned, all-one, any-two, all-two}
-use Rattle.sweep.specs.inner.Line.{startOf, endOf, first, last, Onward}
+use Rattle.line.specs.inner.Line.{startOf, endOf, first, last, Onward}
 use Rattle.sweep.specs.inner.Meetings.{Met, NoWorse, Worst}
-use Rattle.sweep.specs.inner.Arranged.{view, Joined, Arranged, Aligned}
-use Rattle.sweep.proofs.Numbers.{number-first, number-last}
+use Rattle.sweep.specs.inner.Arranged.{view, Joined, Arranged, Seen, Settled}
+use Rattle.line.proofs.Numbers.{number-first, number-last}
 use Rattle.sweep.proofs.Grades.{worst-at}
 
 -- ---- the loop
@@ -103,9 +103,28 @@ worst-arranged {across} {n} {a} {b} {m} r w = record {
     same i j h k = alike-then (joined-alike (r .line i h) (r .line j k)) (view-alike across (startOf (getD a i 0)) (endOf (getD a i 0)) (startOf (getD a j 0)) (endOf (getD a j 0)))
 
 -- Both, with the lengths as the code has them.
-module _ {n k m : ℕ} {a b c : List ℕ} (r : Aligned n a b) (s : Rearranged k b c) (e : k ≡ n) (f : m ≡ k) where
-  pub onward-seen : Onward m c
-  onward-seen = record { onward = λ i h. all-one (λ x. first x ≤ last x) s (λ j g. r .arranged .line j (omega arith) .onward) i (omega arith) }
+pub settled : {across : Bool} {n k : ℕ} {a b c : List ℕ} → Arranged across n a b → Rearranged k b c → Ascending last k c → k ≡ n → Settled n a c
+settled {n = n} {k} {a} {b} {c} r s u e = record {
+  onward = record { onward = λ i h. all-one (λ x. first x ≤ last x) s (λ j g. r .line j (omega arith) .onward) i (omega arith) };
+  ascends = subst (λ (m : ℕ). Ascending last m c) e u;
+  seen = record { worst = λ m h. worst-arranged r (worst-at e (worst-rearranged s (worst-at (sym e) h))) };
+}
 
-  pub worst-seen : {w : Meeting} → Worst m c w → Worst n a w
-  worst-seen h = worst-arranged (r .arranged) (worst-at e (worst-rearranged s (worst-at f h)))
+-- What is settled, with the length that it has then.
+pub long-at : {k n m : ℕ} → k ≡ n → n ≤ m → k ≤ m
+long-at e h = omega arith
+
+pub settled-onward : {n k : ℕ} {a b : List ℕ} → k ≡ n → Settled n a b → Onward k b
+settled-onward {b = b} e s = subst (λ (m : ℕ). Onward m b) (sym e) (s .onward)
+
+pub settled-ascends : {n k : ℕ} {a b : List ℕ} → k ≡ n → Settled n a b → Ascending last k b
+settled-ascends {b = b} e s = subst (λ (m : ℕ). Ascending last m b) (sym e) (s .ascends)
+
+pub seen-worst : {n k : ℕ} {a b : List ℕ} {m : Meeting} → k ≡ n → Seen n a b → Worst k b m → Worst n a m
+seen-worst {m = m} e s h = s .worst m (worst-at e h)
+
+pub seen-none : (n : ℕ) (a : List ℕ) → Seen n a a
+seen-none n a = record { worst = λ m h. h }
+
+pub seen-then : {n k : ℕ} {a b c : List ℕ} → k ≡ n → Seen n a b → Seen k b c → Seen n a c
+seen-then e s t = record { worst = λ m h. seen-worst e s (t .worst m (worst-at (sym e) h)) }

@@ -18,9 +18,10 @@ use Rattle.segment.proofs.Separate.{columns-apart, number-once, numbers-apart}
 use Rattle.segment.proofs.Crossing.{crosses→clash}
 use Rattle.segment.proofs.FourKinds.{one-kind, some-kind, touches→clash}
 use Rattle.sort.specs.inner.Order.{Below, Pairs, Ascending}
-use Rattle.sweep.specs.inner.Line.{startOf, endOf, first, last, Onward}
+use Rattle.line.specs.inner.Line.{startOf, endOf, first, last, Onward}
 use Rattle.sweep.specs.inner.Meetings.{grade, WorseWith, Met, NoWorse, WorstFrom, Worst}
-use Rattle.sweep.proofs.Numbers.{number-first, number-last, start-fits, end-fits}
+use Rattle.neighbours.specs.inner.Held.{NoClash}
+use Rattle.line.proofs.Numbers.{number-first, number-last, start-fits, end-fits}
 
 -- ---- kinds of meeting: all that is said of them by cases
 
@@ -149,3 +150,7 @@ worst-utmost {i} {n} {l} {m} h g f = record {
   found = ⊎-map (λ z. z) (λ p. (p .0, omega (arith, p .1), p .2)) (f .found);
   none-worse = λ x y a b. record { no-worse = λ k z. worst-grade m k g };
 }
+
+-- Lines without a clash.
+pub worst-clear : {n : ℕ} {l : List ℕ} → NoClash n l → Worst n l Separate
+worst-clear {n} {l} h = record { found = inl refl; none-worse = λ i j a b. apart-no-worse Separate (getD l i 0) (getD l j 0) (h .none i j a b) }

@@ -1,4 +1,3 @@
--- The laws of lines as numbers, and of their meetings. None is assumed.
-pub mod Numbers
+-- The laws of meetings of lines as numbers. None is assumed.
 pub mod Grades
 pub mod Arranging

@@ -1,4 +1,3 @@
--- Lines as numbers, and the worst meeting of two of them.
-pub mod Line
+-- The worst meeting of two lines as numbers, along either axis.
 pub mod Meetings
 pub mod Arranged

@@ -1,18 +1,19 @@
 // Along which axis lines are sorted: by rows, or by columns where they overlap less in these (specs/inner/Arranged).
-use crate::line::HALF;
-use crate::line::end;
-use crate::line::number;
-use crate::line::pack;
-use crate::line::start;
-use crate::line::widened;
+use line::HALF;
+use line::end;
+use line::number;
+use line::pack;
+use line::start;
+use line::widened;
 use segment::Point;
 use segment::least;
 use segment::most;
+use sort::sort;
 ghost use mathlib.Core.Path.{_≡_};
 ghost use Prim.Native.Nat.{_+_, _≤_, _<_};
 ghost use lib.ListN.{length};
-ghost use Rattle.sweep.specs.inner.Line.{startOf, endOf};
-ghost use Rattle.sweep.specs.inner.Arranged.{view, Joined, Arranged, Aligned};
+ghost use Rattle.line.specs.inner.Line.{startOf, endOf};
+ghost use Rattle.sweep.specs.inner.Arranged.{view, Joined, Arranged, Settled};
 
 // The line between p and q, from the one with the lesser number.
 fn join(p: Point, q: Point) -> u64
@@ -112,22 +113,35 @@ fn abreast(r: Reach) -> u64
     r.sum / (widened(r.high) - widened(r.low) + 1)
 }
 
-// Do many lines, more than seven, lie abreast by rows, and fewer by columns? Either answer is right: it decides only the time.
-fn lie_flat(lines: &[u64]) -> bool
+// Along which axis lines are searched, and whether they lie far abreast along both. Either answer is right: it decides only the time.
+pub struct View {
+    pub across: bool,
+    pub far: bool,
+}
+
+// By columns, if many lines, more than seven, lie abreast by rows, and fewer by columns; far, if more than 32 do by both.
+pub fn view_of(lines: &[u64]) -> View
     requires { ⌜ length (now lines) ≤ 4097 ⌝ }
 {
     let rows = abreast(reach_along(lines, false));
     if rows <= 7 {
-        return false;
+        return View {
+            across: false,
+            far: false,
+        };
     }
-    abreast(reach_along(lines, true)) < rows
+    let columns = abreast(reach_along(lines, true));
+    View {
+        across: columns < rows,
+        far: 32 < columns && 32 < rows,
+    }
 }
 
-// The lines as they are viewed along the axis on which they overlap less.
-pub fn align(lines: &mut [u64])
-    requires { ⌜ length (now lines) ≤ 4097 ⌝ }
-    ensures { λ _. ⌜ Aligned (length (now (lines .entry))) (now (lines .entry)) (now (lines .exit)) ⌝ }
+// The lines as they are seen along an axis, sorted by their ends.
+pub fn settle(lines: &mut [u64], scratch: &mut [u64], across: bool)
+    requires { ⌜ length (now lines) ≤ length (now scratch) ⌝ }
+    ensures { λ _. ⌜ Settled (length (now (lines .entry))) (now (lines .entry)) (now (lines .exit)) ⌝ }
 {
-    let across = lie_flat(lines);
     arrange(lines, across);
+    sort(lines, scratch, 32);
 }

@@ -1,79 +1,152 @@
 // The worst meeting of two lines of a list: lines sorted by their ends, and each compared with those before it that end after it starts.
 mod axis;
-pub mod line;
 mod meeting;
 
-use crate::axis::align;
-use crate::line::HALF;
-use crate::line::end;
-use crate::line::start;
+use crate::axis::View;
+use crate::axis::settle;
+use crate::axis::view_of;
 use crate::meeting::grade;
 use crate::meeting::worse_with;
+use line::HALF;
+use line::end;
+use line::start;
+use neighbours::clear;
 use segment::least;
 use segment::meeting::Meeting;
 use segment::most;
-use sort::sort;
 ghost use mathlib.Core.Path.{_≡_};
+ghost use mathlib.Core.Bool.{true, false};
 ghost use mathlib.Core.Logic.{_↔_};
 ghost use Prim.Native.Nat.{_≤_, _<_};
 ghost use lib.Dec.{T};
 ghost use lib.ListN.{length, getD};
 ghost use Rattle.sort.specs.inner.Order.{Pairs, Ascending};
-ghost use Rattle.sweep.specs.inner.Line.{last, Onward};
+ghost use Rattle.line.specs.inner.Line.{last, Onward};
+ghost use Rattle.segment.specs.declared.meeting.Meeting.the-variants.{Separate};
 ghost use Rattle.sweep.specs.inner.Meetings.{WorstFrom, Worst};
+ghost use Rattle.sweep.specs.inner.Arranged.{Seen};
+
+// The worst meeting found, and the first line that was compared.
+struct Found {
+    worst: Meeting,
+    from: usize,
+}
 
 // The worst of a meeting and those of line i with the lines before it. Lines are sorted by their ends:
 // where one ends at the start of line i or before, so do all before that.
-fn worst_before(lines: &[u64], i: usize, found: Meeting) -> Meeting
+fn worst_before(lines: &[u64], i: usize, worst: Meeting) -> Found
     requires { ⌜ i < length (now lines) ⌝ }
     requires { ⌜ Onward (length (now lines)) (now lines) ⌝ }
     requires { ⌜ Ascending last (length (now lines)) (now lines) ⌝ }
-    ensures { λ m. ⌜ WorstFrom 0 i (now (lines .entry)) found m ⌝ }
+    ensures { λ r. ⌜ (r .from ≤ i) × WorstFrom 0 i (now (lines .entry)) worst (r .worst) ⌝ }
 {
     let k = lines[i];
     let p = start(k);
     let q = end(k);
     let low = least(p.column, q.column);
     let high = most(p.column, q.column);
-    let mut worst = found;
+    let mut worst = worst;
     let mut j = i;
     while 0 < j {
         let before = lines[j - 1];
         if before / HALF <= k % HALF {
-            return worst;
+            return Found { worst, from: j };
         }
         worst = worse_with(worst, p, q, low, high, start(before), end(before));
         j -= 1;
     }
-    worst
+    Found { worst, from: 0 }
 }
 
-// The worst meeting of two lines, of lines sorted by their ends. Stops with the line that has one than which none is worse.
-fn worst_of(lines: &[u64]) -> Meeting
+// The worst meeting of two lines; if not whole, of some.
+struct Search {
+    worst: Meeting,
+    whole: bool,
+}
+
+// As many comparisons as 4,097 lines can need.
+const ALL: usize = 0x100_2001;
+
+// The worst meeting of two lines, of lines sorted by their ends. Stops with the line that has one than which none is worse, and where it has compared
+// so many, and 24 for each line beside.
+fn worst_of(lines: &[u64], budget: usize) -> Search
+    requires { ⌜ (length (now lines) ≤ 4097) × (budget ≤ 16785409) ⌝ }
     requires { ⌜ Onward (length (now lines)) (now lines) ⌝ }
     requires { ⌜ Ascending last (length (now lines)) (now lines) ⌝ }
-    ensures { λ m. ⌜ Worst (length (now (lines .entry))) (now (lines .entry)) m ⌝ }
+    ensures worst { λ r. ⌜ (r .whole ≡ true → Worst (length (now (lines .entry))) (now (lines .entry)) (r .worst)) ⌝ }
+    ensures whole { λ r. ⌜ (budget ≡ 16785409 → r .whole ≡ true) ⌝ }
 {
     let mut worst = Meeting::Separate;
+    let mut left = budget;
     let mut i = 0;
     while i < lines.len() {
-        worst = worst_before(lines, i, worst);
+        let found = worst_before(lines, i, worst);
+        worst = found.worst;
         if grade(worst) == 2 {
-            return worst;
+            return Search { worst, whole: true };
         }
+        let compared = i - found.from;
+        left += 24;
+        if left < compared {
+            return Search {
+                worst,
+                whole: false,
+            };
+        }
+        left -= compared;
         i += 1;
     }
-    worst
+    Search { worst, whole: true }
 }
 
-// The worst meeting of two lines, whichever way they go. Leaves them aligned and sorted.
-pub fn worst_meeting(lines: &mut [u64], scratch: &mut [u64]) -> Meeting
+// The worst meeting of two lines, by a search that is given up where it takes long, and not begun where lines lie far abreast. Then they are as they were,
+// if in another order, or turned round.
+fn search_first(lines: &mut [u64], scratch: &mut [u64], view: View) -> Search
     requires { ⌜ (length (now lines) ≤ 4097) × (length (now lines) ≤ length (now scratch)) ⌝ }
+    ensures worst { λ r. ⌜ (r .whole ≡ true → Worst (length (now (lines .entry))) (now (lines .entry)) (r .worst)) ⌝ }
+    ensures seen { λ _. ⌜ Seen (length (now (lines .entry))) (now (lines .entry)) (now (lines .exit)) ⌝ }
+{
+    if view.far {
+        return Search {
+            worst: Meeting::Separate,
+            whole: false,
+        };
+    }
+    settle(lines, scratch, view.across);
+    let found = worst_of(lines, 4 * lines.len());
+    if found.whole {
+        return found;
+    }
+    settle(lines, scratch, view.across);
+    found
+}
+
+// Are the lines surely without a clash? "No" says nothing.
+pub fn surely_clear(lines: &mut [u64], scratch: &mut [u64], held: &mut [u16]) -> bool
+    requires { ⌜ (length (now lines) ≤ 4097) × (length (now lines) ≤ length (now scratch)) × (length (now lines) ≤ length (now held)) ⌝ }
+    ensures clear { λ z. ⌜ (z ≡ true → Worst (length (now (lines .entry))) (now (lines .entry)) Separate) ⌝ }
+    ensures seen { λ _. ⌜ Seen (length (now (lines .entry))) (now (lines .entry)) (now (lines .exit)) ⌝ }
+{
+    settle(lines, scratch, false);
+    clear(lines, held)
+}
+
+// The worst meeting of two lines, whichever way they go. Leaves them seen along an axis and sorted.
+pub fn worst_meeting(lines: &mut [u64], scratch: &mut [u64], held: &mut [u16]) -> Meeting
+    requires { ⌜ (length (now lines) ≤ 4097) × (length (now lines) ≤ length (now scratch)) × (length (now lines) ≤ length (now held)) ⌝ }
     ensures { λ m. ⌜ Worst (length (now (lines .entry))) (now (lines .entry)) m ⌝ }
 {
-    align(lines);
-    sort(lines, scratch, 32);
-    worst_of(lines)
+    let view = view_of(lines);
+    let found = search_first(lines, scratch, view);
+    if found.whole {
+        return found.worst;
+    }
+    if surely_clear(lines, scratch, held) {
+        return Meeting::Separate;
+    }
+    settle(lines, scratch, view.across);
+    let rest = worst_of(lines, ALL);
+    rest.worst
 }
 
 // Do two lines end at one point, of lines sorted by their ends?

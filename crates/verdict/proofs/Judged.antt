@@ -15,7 +15,7 @@ use Rattle.segment.proofs.Crossing.{crosses-exchange}
 use Rattle.segment.proofs.FourKinds.{some-kind, touches→clash}
 use Rattle.sort.specs.inner.Order.{Rearranged, Below, Pairs}
 use Rattle.sort.proofs.Rearranging.{any-one, any-two}
-use Rattle.sweep.specs.inner.Line.{startOf, endOf, last}
+use Rattle.line.specs.inner.Line.{startOf, endOf, last}
 use Rattle.sweep.specs.inner.Meetings.{grade, Worst}
 use Rattle.sweep.proofs.Grades.{clash-graded}
 use Rattle.table.specs.inner.Reading.{Nodes}

@@ -4,7 +4,7 @@ use native.Mathlib.Omega.{arith}
 use lib.ListN.{length, getD}
 use Rattle.segment.proofs.Answers.{found, none}
 use Rattle.sort.proofs.Neighbours.{next-differs}
-use Rattle.sweep.specs.inner.Line.{last}
+use Rattle.line.specs.inner.Line.{last}
 use borrow.Author.Needs.{needs}
 use Rattle.sweep.proofs.same_end.Statement.{statement}
 use Rattle.sweep.proofs.same_end.Tie as tie

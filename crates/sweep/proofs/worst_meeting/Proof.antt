@@ -1,18 +1,16 @@
--- `worst_meeting`: the lines as they are seen and sorted meet no other way. Rests on Arranging.
-use Rattle.sort.proofs.Neighbours.{ascending-length}
-use Rattle.sweep.proofs.Arranging.{onward-seen, worst-seen}
+use Rattle.sweep.proofs.Arranging.{long-at, settled-onward, settled-ascends, seen-worst}
+use mathlib.Core.Path.{refl, _∙_}
+-- `worst_meeting`: by the first search, or the lines are clear, or by a search to the end. Rests on Arranging.
+use native.Mathlib.Omega.{arith}
 use borrow.Author.Needs.{needs}
 use Rattle.sweep.proofs.worst_meeting.Statement.{statement}
 use Rattle.sweep.proofs.worst_meeting.Tie as tie
 
-align-requires : tie.Need-align-requires
-align-requires c κs = search needs
+view-of-requires : tie.Need-view-of-requires
+view-of-requires c κs = search needs
 
-sort-requires : tie.Need-sort-requires
-sort-requires c κs = search needs
-
-worst-of-requires : tie.Need-worst-of-requires
-worst-of-requires c κs = let e = c .before .before .before .before .before .sort .kept .0 in (onward-seen (c .before .before .before .before .before .before .before .before .before .before .align .ensures) (c .before .before .before .before .before .sort .ensures .0) (c .before .before .before .before .before .before .before .before .before .before .align .kept .0) e, ascending-length e (c .before .before .before .before .before .sort .ensures .1))
+search-first-requires : tie.Need-search-first-requires
+search-first-requires c κs = search needs
 
 same-length : tie.Need-same-length
 same-length c = search needs
@@ -21,9 +19,60 @@ same-length-2 : tie.Need-same-length-2
 same-length-2 c = search needs
 
 returns : tie.Need-returns
-returns c = worst-seen (c .before .before .before .before .before .before .before .before .before .before .before .align .ensures) (c .before .before .before .before .before .before .sort .ensures .0) (c .before .before .before .before .before .before .before .before .before .before .before .align .kept .0) (c .before .before .before .before .before .before .sort .kept .0) (c .worst-of .ensures)
+returns c = c .before .before .before .before .before .search-first .ensures .0 (c .if1 .taken)
+
+surely-clear-requires : tie.Need-surely-clear-requires
+surely-clear-requires c κs = search needs
+
+same-length-3 : tie.Need-same-length-3
+same-length-3 c = search needs
+
+same-length-4 : tie.Need-same-length-4
+same-length-4 c = search needs
+
+same-length-5 : tie.Need-same-length-5
+same-length-5 c = search needs
+
+returns-2 : tie.Need-returns-2
+returns-2 c = let f = c .before .before .before .before .before .before .before .before .before .before .before .before .before .before .before .before .search-first in seen-worst (f .kept .0) (f .ensures .1) (c .before .before .before .before .before .before .before .surely-clear .ensures .0 (c .if2 .taken))
+
+settle-requires : tie.Need-settle-requires
+settle-requires c κs = search needs
+
+worst-of-requires : tie.Need-worst-of-requires
+worst-of-requires c κs = let s = c .before .before .before .before .before .settle in
+    ((long-at (s .kept .0 ∙ c .before .before .before .before .before .before .before .before .before .before .before .before .before .before .before .surely-clear .kept .0 ∙ c .before .before .before .before .before .before .before .before .before .before .before .before .before .before .before .before .before .before .before .before .before .before .before .before .search-first .kept .0) (c .before .before .before .before .before .before .before .before .before .before .before .before .before .before .before .before .before .before .before .before .before .before .before .before .before .before .before .before .before .before .before .before .pre .0), omega arith), (settled-onward (s .kept .0) (s .ensures), settled-ascends (s .kept .0) (s .ensures)))
+
+same-length-6 : tie.Need-same-length-6
+same-length-6 c = search needs
+
+same-length-7 : tie.Need-same-length-7
+same-length-7 c = search needs
+
+same-length-8 : tie.Need-same-length-8
+same-length-8 c = search needs
+
+returns-3 : tie.Need-returns-3
+returns-3 c = let f = c .before .before .before .before .before .before .before .before .before .before .before .before .before .before .before .before .before .before .before .before .before .before .before .before .before .search-first in let g = c .before .before .before .before .before .before .before .before .before .before .before .before .before .before .before .before .surely-clear in let s = c .before .before .before .before .before .before .settle in
+    seen-worst (f .kept .0) (f .ensures .1) (seen-worst (g .kept .0) (g .ensures .1) (seen-worst (s .kept .0) (s .ensures .seen) (c .worst-of .ensures .0 (c .worst-of .ensures .1 refl))))
 
 pub worst-meeting-spec : {M : Type 1} → statement M
 worst-meeting-spec =
     tie.close
-    (tie.spec align-requires sort-requires worst-of-requires same-length same-length-2 returns)
+    (tie.spec
+    view-of-requires
+    search-first-requires
+    same-length
+    same-length-2
+    returns
+    surely-clear-requires
+    same-length-3
+    same-length-4
+    same-length-5
+    returns-2
+    settle-requires
+    worst-of-requires
+    same-length-6
+    same-length-7
+    same-length-8
+    returns-3)

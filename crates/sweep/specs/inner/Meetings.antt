@@ -9,7 +9,7 @@ use Rattle.segment.specs.declared.meeting.Meeting.{Meeting}
 use Rattle.segment.specs.declared.meeting.Meeting.the-variants.{Separate, SharedEnd, Crossing, Touching}
 use Rattle.segment.specs.Meeting.{MeetSo}
 use Rattle.sort.specs.inner.Order.{Below, Pairs}
-use Rattle.sweep.specs.inner.Line.{startOf, endOf}
+use Rattle.line.specs.inner.Line.{startOf, endOf}
 
 -- How bad a meeting is.
 abbrev pub grade : Meeting → ℕ

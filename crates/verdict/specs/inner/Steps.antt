@@ -12,7 +12,7 @@ use Rattle.segment.specs.declared.meeting.Meeting.the-variants.{Separate, Share
 use Rattle.segment.specs.Segment.{Clash}
 use Rattle.segment.specs.Meeting.{Crosses}
 use Rattle.sort.specs.inner.Order.{Below, Pairs}
-use Rattle.sweep.specs.inner.Line.{startOf, endOf, last}
+use Rattle.line.specs.inner.Line.{startOf, endOf, last}
 use Rattle.table.specs.Lists.{member}
 use Rattle.table.specs.Table.{Side, records, leftOf, rightOf, linkOf, Line}
 use Rattle.table.specs.Trees.{roots}

@@ -12,10 +12,10 @@ slice-relend-prefix-judge-lines : tie.Need-slice-relend-prefix-judge-lines
 slice-relend-prefix-judge-lines c = search needs
 
 slice-aggregate-judge-lines : tie.Need-slice-aggregate-judge-lines
-slice-aggregate-judge-lines c = let s = c .before .before .before in sym (length-take-le (s .args .n) (s .args .lines .now) (s .pre .1))
+slice-aggregate-judge-lines c = let s = c .before .before .before .before in sym (length-take-le (s .args .n) (s .args .lines .now) (s .pre .1))
 
 judge-lines-requires : tie.Need-judge-lines-requires
-judge-lines-requires c κs = let s = c .before .before .before .before in let e = length-take-le (s .args .n) (s .args .lines .now) (s .pre .1) in (omega arith, omega arith)
+judge-lines-requires c κs = let s = c .before .before .before .before .before .before in let e = length-take-le (s .args .n) (s .args .lines .now) (s .pre .1) in (omega arith, omega arith, omega arith)
 
 same-length : tie.Need-same-length
 same-length c = search needs
@@ -23,8 +23,11 @@ same-length c = search needs
 same-length-2 : tie.Need-same-length-2
 same-length-2 c = search needs
 
+same-length-3 : tie.Need-same-length-3
+same-length-3 c = search needs
+
 returns : tie.Need-returns
-returns c = let s = c .before .before .before .before .before .before .before .before .before in first-moved (front (s .args .n) (s .args .lines .now)) (length-take-le (s .args .n) (s .args .lines .now) (s .pre .1)) (c .before .before .before .before .judge-lines .ensures)
+returns c = let s = c .before .before .before .before .before .before .before .before .before .before .before .before .before in first-moved (front (s .args .n) (s .args .lines .now)) (length-take-le (s .args .n) (s .args .lines .now) (s .pre .1)) (c .before .before .before .before .before .before .judge-lines .ensures)
 
 pub judge-first-spec : {M : Type 1} → statement M
 judge-first-spec =
@@ -35,4 +38,5 @@ judge-first-spec =
     judge-lines-requires
     same-length
     same-length-2
+    same-length-3
     returns)

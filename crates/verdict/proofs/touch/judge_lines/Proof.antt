@@ -47,12 +47,14 @@ same-length-5 c = search needs
 same-length-6 : tie.Need-same-length-6
 same-length-6 c = search needs
 
+same-length-7 : tie.Need-same-length-7
+same-length-7 c = search needs
+
 returns-3 : tie.Need-returns-3
-returns-3 c =
-    let w = c .before .before .before .before .before in
-    let b = w .before .before .before in
-    let a = b .before .before .before in
-    let r = a .before .before .before .before .before .before .before .sort in
+returns-3 c = let w = c .before .before .before .before .before .before .before in
+    let b = c .before .before .before .before .before .before .before .before .before .before .before in
+    let a = c .before .before .before .before .before .before .before .before .before .before .before .before .before .before in
+    let r = c .before .before .before .before .before .before .before .before .before .before .before .before .before .before .before .before .before .before .before .before .before .sort in
     first-moved (r .ensures .0) (r .kept .0) (worst-first (w .worst-meeting .result) (fails (a .if1 .left) (a .before .same-end .ensures)) (fails (b .if2 .left) (b .before .rises .ensures)) (w .worst-meeting .ensures) (c .worst-verdict .ensures))
 
 pub judge-lines-spec : {M : Type 1} → statement M
@@ -72,4 +74,5 @@ judge-lines-spec =
     worst-verdict-requires
     same-length-5
     same-length-6
+    same-length-7
     returns-3)

@@ -1,8 +1,8 @@
 -- `end`: the bits are the coordinates.
-use Rattle.sweep.specs.inner.Line.{endOf}
+use Rattle.line.specs.inner.Line.{endOf}
 use borrow.Author.Needs.{needs}
-use Rattle.sweep.proofs.line.end.Statement.{statement}
-use Rattle.sweep.proofs.line.end.Tie as tie
+use Rattle.line.proofs.end.Statement.{statement}
+use Rattle.line.proofs.end.Tie as tie
 
 cast-t4 : tie.Need-cast-t4
 cast-t4 c = search needs

@@ -1,8 +1,8 @@
 -- `pack`: each coordinate has its sixteen bits. Rests on Numbers.
-use Rattle.sweep.proofs.Numbers.{packed}
+use Rattle.line.proofs.Numbers.{packed}
 use borrow.Author.Needs.{needs}
-use Rattle.sweep.proofs.line.pack.Statement.{statement}
-use Rattle.sweep.proofs.line.pack.Tie as tie
+use Rattle.line.proofs.pack.Statement.{statement}
+use Rattle.line.proofs.pack.Tie as tie
 
 number-requires : tie.Need-number-requires
 number-requires c κs = search needs

@@ -5,7 +5,7 @@ use native.Mathlib.Omega.{arith}
 use Rattle.segment.specs.declared.Point.{Point}
 use Rattle.segment.specs.inner.Test.{number}
 use Rattle.segment.proofs.Clashing.{point}
-use Rattle.sweep.specs.inner.Line.{startOf, endOf, first, last}
+use Rattle.line.specs.inner.Line.{startOf, endOf, first, last}
 
 -- The four parts of a number that is packed of four of sixteen bits.
 module _ (a b c d n m : ℕ) (f : n ≡ 65536 * a + b) (g : m ≡ 65536 * c + d) (y : b < 65536) (z : c < 65536) (w : d < 65536) where

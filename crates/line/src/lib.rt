@@ -3,7 +3,7 @@ use segment::Point;
 ghost use mathlib.Core.Path.{_≡_};
 ghost use Prim.Native.Nat.{_<_};
 ghost use Rattle.segment.specs.inner.Test.{number as numberOf};
-ghost use Rattle.sweep.specs.inner.Line.{startOf, endOf};
+ghost use Rattle.line.specs.inner.Line.{startOf, endOf};
 
 // What a step of the end adds to a line's number: more than the number of any start.
 pub const HALF: u64 = 0x1_0000_0000;

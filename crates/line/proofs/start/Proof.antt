@@ -1,8 +1,8 @@
 -- `start`: the bits are the coordinates.
-use Rattle.sweep.specs.inner.Line.{startOf}
+use Rattle.line.specs.inner.Line.{startOf}
 use borrow.Author.Needs.{needs}
-use Rattle.sweep.proofs.line.start.Statement.{statement}
-use Rattle.sweep.proofs.line.start.Tie as tie
+use Rattle.line.proofs.start.Statement.{statement}
+use Rattle.line.proofs.start.Tie as tie
 
 cast-t3 : tie.Need-cast-t3
 cast-t3 c = search needs

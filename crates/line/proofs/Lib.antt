@@ -1,0 +1,2 @@
+-- The laws of lines as numbers. None is assumed.
+pub mod Numbers

@@ -1,0 +1,2 @@
+-- Lines as numbers.
+pub mod Line

@@ -1,0 +1,3 @@
+-- Two lines side by side (Side), and the lines that a sweep holds at a level (Held).
+pub mod Side
+pub mod Held

@@ -1,0 +1,23 @@
+-- `settle`: the lines as they are seen and sorted meet no other way. Rests on Arranging.
+use Rattle.sweep.proofs.Arranging.{settled}
+use borrow.Author.Needs.{needs}
+use Rattle.sweep.proofs.axis.settle.Statement.{statement}
+use Rattle.sweep.proofs.axis.settle.Tie as tie
+
+arrange-requires : tie.Need-arrange-requires
+arrange-requires c κs = search needs
+
+sort-requires : tie.Need-sort-requires
+sort-requires c κs = search needs
+
+same-length : tie.Need-same-length
+same-length c = search needs
+
+same-length-2 : tie.Need-same-length-2
+same-length-2 c = search needs
+
+returns : tie.Need-returns
+returns c = settled (c .before .before .before .before .before .before .before .before .before .arrange .ensures) (c .before .before .before .before .sort .ensures .0) (c .before .before .before .before .sort .ensures .1) (c .before .before .before .before .before .before .before .before .before .arrange .kept .0)
+
+pub settle-spec : {M : Type 1} → statement M
+settle-spec = tie.close (tie.spec arrange-requires sort-requires same-length same-length-2 returns)
