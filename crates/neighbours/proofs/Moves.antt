@@ -12,7 +12,7 @@ use Rattle.segment.specs.Segment.{cross}
 use Rattle.segment.proofs.Clashing.{point}
 use Rattle.line.specs.inner.Line.{startOf, endOf, first, last}
 use Rattle.neighbours.specs.inner.Side.{Beyond, Next}
-use Rattle.neighbours.specs.inner.Held.{at, Starting, Replaced}
+use Rattle.neighbours.specs.inner.Abreast.{at, Starting, Replaced}
 
 -- ---- insert: from the end down to j each element is a place further on
 

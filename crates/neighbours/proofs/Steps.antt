@@ -18,7 +18,7 @@ use Rattle.sort.specs.inner.Order.{Below}
 use Rattle.line.specs.inner.Line.{startOf, endOf, first, last, Onward}
 use Rattle.line.proofs.Numbers.{number-first, number-last, start-fits, end-fits}
 use Rattle.neighbours.specs.inner.Side.{Ends, Next}
-use Rattle.neighbours.specs.inner.Held.{Clashes, NoClash, at, Starting, Clear, Held, Replaced}
+use Rattle.neighbours.specs.inner.Abreast.{Clashes, NoClash, at, Starting, Clear, Abreast, Replaced}
 use Rattle.neighbours.proofs.Levels.{EndAt, Ordered, right-ordered, left-ordered}
 use Rattle.neighbours.proofs.Chain.{Spot, spot, Under, under-next, under-more, under-on}
 
@@ -98,19 +98,19 @@ module _ (f : ℕ → ℕ) (m q x y : ℕ) (one : 1 ≤ q) (spans : (s : ℕ) �
       go (yes l) = one-way p r l k c
       go (no l) = one-way r p (omega arith) h (meets-back c)
 
--- ---- lines that a sweep holds
+-- ---- lines abreast
 
 -- Of lines that all came in at t or above and start at t′ or below, two share nothing from t′ up to t.
-held : {n t m : ℕ} {l : List ℕ} (a : List ℕ) → Onward n l → ((p : ℕ) → p < m → getD a p 0 < n) → ((p : ℕ) → p < m → t ≤ last (at l a p)) → ((p : ℕ) → p + 1 < m → Next (at l a p) (at l a (p + 1))) →
+apart : {n t m : ℕ} {l : List ℕ} (a : List ℕ) → Onward n l → ((p : ℕ) → p < m → getD a p 0 < n) → ((p : ℕ) → p < m → t ≤ last (at l a p)) → ((p : ℕ) → p + 1 < m → Next (at l a p) (at l a (p + 1))) →
     (t′ : ℕ) → ((p : ℕ) → p < m → first (at l a p) ≤ t′) → {j k q x y : ℕ} → Below m (λ p. getD a p 0 ≡ j) → Below m (λ p. getD a p 0 ≡ k) → j ≢ k →
     q * t′ ≤ 65536 * y + x → 65536 * y + x ≤ q * t → Meets (getD l j 0) (getD l k 0) q x y → ⊥
-held {n} {t} {m} {l} a o below come next t′ start {j} {k} {q} {x} {y} (p, u, e) (r, w, f) d low high c =
+apart {n} {t} {m} {l} a o below come next t′ start {j} {k} {q} {x} {y} (p, u, e) (r, w, f) d low high c =
     split (λ s. at l a s) m q x y (c .one)
     (λ s v. record { onward = o .onward (getD a s 0) (below s v); low = omega (arith, mul-le-mul-left q (start s v)); high = omega (arith, mul-le-mul-left q (come s v)) })
     next p r u w (λ z. d (sym e ∙ ap (λ (s : ℕ). getD a s 0) z ∙ f)) (subst₂ (λ (v z : ℕ). Meets (getD l v 0) (getD l z 0) q x y) (sym e) (sym f) c)
 
 -- Down to a level at which none that it holds has ended before.
-advance : {n i t m : ℕ} {l a : List ℕ} → Onward n l → Held n i t m l a → (t′ : ℕ) → t′ ≤ t → ((p : ℕ) → p < m → first (at l a p) ≤ t′) →
+advance : {n i t m : ℕ} {l a : List ℕ} → Onward n l → Abreast n i t m l a → (t′ : ℕ) → t′ ≤ t → ((p : ℕ) → p < m → first (at l a p) ≤ t′) →
     (j k : ℕ) → i ≤ j → j < k → k < n → Clear t′ (getD l j 0) (getD l k 0)
 advance {n} {i} {t} {m} {l} {a} o h t′ d start j k g b v = record { clear = λ c. go c (decLt (65536 * c .y + c .x) (c .q * t′)) }
   where
@@ -119,14 +119,14 @@ advance {n} {i} {t} {m} {l} {a} o h t′ d start j k g b v = record { clear = λ
     go c (no z) =
         let old = h .clear (λ p u. omega (arith, start p u)) j k g b v .clear c in
         let w = meets-of c in
-        absurd (held a o (h .below) (h .come) (h .next) t′ start
+        absurd (apart a o (h .below) (h .come) (h .next) t′ start
         (h .all j g (omega arith) (less (c .q) (first (getD l j 0)) t (omega (arith, on-levels (getD l j 0) (o .onward j (omega arith)) (w .on-X)))))
         (h .all k (omega arith) v (less (c .q) (first (getD l k 0)) t (omega (arith, on-levels (getD l k 0) (o .onward k v) (w .on-Y)))))
         (λ e. omega arith) (omega arith) (omega arith) w)
 
 -- ---- lines go out, and one comes in or none
 
-module _ {n i i′ t t′ m m′ d p e : ℕ} {l a b : List ℕ} (o : Onward n l) (h : Held n i t m l a) (lines : (d ≤ 1) × (i′ + d ≡ i) × (i ≤ n)) (count : (e ≤ m) × (m′ + e ≡ m + p + d))
+module _ {n i i′ t t′ m m′ d p e : ℕ} {l a b : List ℕ} (o : Onward n l) (h : Abreast n i t m l a) (lines : (d ≤ 1) × (i′ + d ≡ i) × (i ≤ n)) (count : (e ≤ m) × (m′ + e ≡ m + p + d))
     (out : Starting p e t′ l a) (in′ : 0 < d → last (getD l i′ 0) ≡ t′) (changed : Replaced d m p e i′ a b) where
   -- what b has at s, and where b has what a had at s
   replaced-all : (A : ℕ → Type 0) → ((s : ℕ) → s < m → A (getD a s 0)) → (0 < d → A i′) → (s : ℕ) → s < m′ → A (getD b s 0)
@@ -171,8 +171,8 @@ module _ {n i i′ t t′ m m′ d p e : ℕ} {l a b : List ℕ} (o : Onward n l
           by (e + r) (e + (r + 1)) (ap (λ (z : ℕ). getD b z 0) (omega arith) ∙ changed .after r (omega arith))
           (ap (λ (z : ℕ). getD b z 0) (omega arith) ∙ changed .after (r + 1) (omega arith)) (omega arith) (omega arith)
 
-  pub held-on : t′ ≤ t → ((s : ℕ) → s + 1 ≡ p → p < m′ → Next (at l b s) (at l b (s + 1))) → (0 < d → p + 1 < m′ → Next (at l b p) (at l b (p + 1))) → Held n i′ t′ m′ l b
-  held-on down left right = record {
+  pub abreast-on : t′ ≤ t → ((s : ℕ) → s + 1 ≡ p → p < m′ → Next (at l b s) (at l b (s + 1))) → (0 < d → p + 1 < m′ → Next (at l b p) (at l b (p + 1))) → Abreast n i′ t′ m′ l b
+  abreast-on down left right = record {
     from = replaced-all (λ j. i′ ≤ j) (λ s u. omega (arith, h .from s u)) (λ z. omega arith);
     below = replaced-below;
     come = come;
@@ -215,34 +215,34 @@ module _ {n i i′ t t′ m m′ d p e : ℕ} {l a b : List ℕ} (o : Onward n l
           go c (yes y) s = y
           go c (no y) (yes s) =
               let x = meets-of c in
-              absurd (held b o replaced-below come next t′ start (p, omega (arith, out .onward), changed .here (omega arith) ∙ sym is) (old-all k (omega arith) w s)
+              absurd (apart b o replaced-below come next t′ start (p, omega (arith, out .onward), changed .here (omega arith) ∙ sym is) (old-all k (omega arith) w s)
               (λ f. omega arith) (omega arith) (subst (λ (r : ℕ). 65536 * c .y + c .x ≤ c .q * r) ends (on-levels (getD l j 0) (o .onward j (omega arith)) (x .on-X) .1)) x)
           go c (no y) (no s) = absurd (numbers-apart 65536 (start-fits (getD l k 0)) (end-fits (getD l k 0)) (end-fits (getD l j 0)) (up (getD l k 0) (o .onward k w))
               (up (getD l j 0) (o .onward j (omega arith))) (omega (arith, number-first (getD l k 0), number-last (getD l j 0), ends)) (clash-exchange c))
 
 -- For the code: line i comes in, and none does.
-module _ {n i t m p e : ℕ} {l a b : List ℕ} (o : Onward n l) (h : Held n (i + 1) t m l a) (out : Starting p e (last (getD l i 0)) l a) (k : e ≤ m) (g : i < n) (changed : Replaced 1 m p e i a b) where
+module _ {n i t m p e : ℕ} {l a b : List ℕ} (o : Onward n l) (h : Abreast n (i + 1) t m l a) (out : Starting p e (last (getD l i 0)) l a) (k : e ≤ m) (g : i < n) (changed : Replaced 1 m p e i a b) where
   pub in-below : (s : ℕ) → s < m + p + 1 - e → getD b s 0 < n
   in-below = replaced-below o h (omega arith, refl, omega arith) (k, omega arith) out (λ z. refl) changed
 
-  pub held-in : last (getD l i 0) ≤ t → ((s : ℕ) → s + 1 ≡ p → p < m + p + 1 - e → Next (at l b s) (at l b (s + 1))) →
-      ((s : ℕ) → s + 1 ≡ p + 1 → p + 1 < m + p + 1 - e → Next (at l b s) (at l b (s + 1))) → Held n i (last (getD l i 0)) (m + p + 1 - e) l b
-  held-in down left right = held-on o h (omega arith, refl, omega arith) (k, omega arith) out (λ z. refl) changed down left (λ z. right p refl)
+  pub abreast-in : last (getD l i 0) ≤ t → ((s : ℕ) → s + 1 ≡ p → p < m + p + 1 - e → Next (at l b s) (at l b (s + 1))) →
+      ((s : ℕ) → s + 1 ≡ p + 1 → p + 1 < m + p + 1 - e → Next (at l b s) (at l b (s + 1))) → Abreast n i (last (getD l i 0)) (m + p + 1 - e) l b
+  abreast-in down left right = abreast-on o h (omega arith, refl, omega arith) (k, omega arith) out (λ z. refl) changed down left (λ z. right p refl)
 
-module _ {n i t level m p e : ℕ} {l a b : List ℕ} (o : Onward n l) (h : Held n i t m l a) (out : Starting p e level l a) (k : e ≤ m) (g : i ≤ n) (changed : Replaced 0 m p e 0 a b) where
+module _ {n i t level m p e : ℕ} {l a b : List ℕ} (o : Onward n l) (h : Abreast n i t m l a) (out : Starting p e level l a) (k : e ≤ m) (g : i ≤ n) (changed : Replaced 0 m p e 0 a b) where
   unchanged : Replaced 0 m p e i a b
   unchanged = record { before = changed .before; here = λ z. absurd (omega arith); after = changed .after }
 
   pub out-below : (s : ℕ) → s < m + p - e → getD b s 0 < n
   out-below = replaced-below o h (omega arith, omega arith, g) (k, omega arith) out (λ z. absurd (omega arith)) unchanged
 
-  pub held-out : level ≤ t → ((s : ℕ) → s + 1 ≡ p → p < m + p - e → Next (at l b s) (at l b (s + 1))) → Held n i level (m + p - e) l b
-  held-out down left = held-on o h (omega arith, omega arith, g) (k, omega arith) out (λ z. absurd (omega arith)) unchanged down left (λ z. absurd (omega arith))
+  pub abreast-out : level ≤ t → ((s : ℕ) → s + 1 ≡ p → p < m + p - e → Next (at l b s) (at l b (s + 1))) → Abreast n i level (m + p - e) l b
+  abreast-out down left = abreast-on o h (omega arith, omega arith, g) (k, omega arith) out (λ z. absurd (omega arith)) unchanged down left (λ z. absurd (omega arith))
 
 -- ---- before the first line, and after the last
 
-pub held-none : (n t : ℕ) (l a : List ℕ) → Held n n t 0 l a
-held-none n t l a = record {
+pub abreast-none : (n t : ℕ) (l a : List ℕ) → Abreast n n t 0 l a
+abreast-none n t l a = record {
   from = λ p h. absurd (omega arith);
   below = λ p h. absurd (omega arith);
   come = λ p h. absurd (omega arith);
@@ -251,8 +251,8 @@ held-none n t l a = record {
   clear = λ s j k h g v. absurd (omega arith);
 }
 
-pub held-over : {n t : ℕ} {l a : List ℕ} → Onward n l → Held n 0 t 0 l a → NoClash n l
-held-over {n} {t} {l} {a} o h = record {
+pub abreast-over : {n t : ℕ} {l a : List ℕ} → Onward n l → Abreast n 0 t 0 l a → NoClash n l
+abreast-over {n} {t} {l} {a} o h = record {
   none = λ j k v w c.
       let low = on-levels (getD l j 0) (o .onward j (omega arith)) (weights (c .on-PQ)) .0 in
       let z = h .clear (λ p u. absurd (omega arith)) j k (omega arith) v w .clear c in

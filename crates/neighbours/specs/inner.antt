@@ -1,3 +1,3 @@
--- Two lines side by side (Side), and the lines that a sweep holds at a level (Held).
+-- Two lines side by side (Side), and the lines that a sweep holds at a level (Abreast).
 pub mod Side
-pub mod Held
+pub mod Abreast

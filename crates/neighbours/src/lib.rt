@@ -1,14 +1,14 @@
-// Are lines surely without a clash? A sweep over all numbers, from the greatest down, holds the lines at a level from left to right and compares neighbours only.
-// "No" says nothing. Which level comes next, and where a line is put in, are guesses: a wrong one shows, since neighbours are then not side by side, or a line
-// never goes out (specs/inner/Held says what is known of the lines held).
-mod held;
+// Are lines surely without a clash? A sweep over all numbers, from the greatest down, has the lines abreast at a level from left to right and compares neighbours only.
+// "No" says nothing. Which level comes next, and where a line comes in, are guesses: a wrong one shows, since neighbours are then not side by side, or a line never
+// goes out. What is known of the lines abreast is `Abreast` (specs/inner/Abreast).
+mod abreast;
 mod side;
 
-use crate::held::clear_out;
-use crate::held::line_at;
-use crate::held::place;
-use crate::held::replace;
-use crate::held::starting;
+use crate::abreast::clear_out;
+use crate::abreast::line_at;
+use crate::abreast::place;
+use crate::abreast::replace;
+use crate::abreast::starting;
 use crate::side::beside;
 use line::HALF;
 ghost use mathlib.Core.Path.{_≡_};
@@ -17,13 +17,13 @@ ghost use Prim.Native.Nat.{ℕ, _+_, _-_, _≤_, _<_};
 ghost use lib.ListN.{length, getD};
 ghost use Rattle.line.specs.inner.Line.{last, Onward};
 ghost use Rattle.neighbours.specs.inner.Side.{Next};
-ghost use Rattle.neighbours.specs.inner.Held.{NoClash, Places, at, Starting, Held};
+ghost use Rattle.neighbours.specs.inner.Abreast.{NoClash, Places, at, Starting, Abreast};
 
-// Are the lines at p and before it side by side, if both are held?
-fn beside_last(lines: &[u64], held: &[u16], m: usize, p: usize) -> bool
-    requires { ⌜ Places (length (now lines)) m (now held) ⌝ }
+// Are the lines at p and before it side by side, if there are both?
+fn beside_last(lines: &[u64], abreast: &[u16], m: usize, p: usize) -> bool
+    requires { ⌜ Places (length (now lines)) m (now abreast) ⌝ }
     ensures { λ z. ⌜ (z ≡ true → (s : ℕ) → s + 1 ≡ p → p < m
-        → Next (at (now (lines .entry)) (now (held .entry)) s) (at (now (lines .entry)) (now (held .entry)) (s + 1))) ⌝ }
+        → Next (at (now (lines .entry)) (now (abreast .entry)) s) (at (now (lines .entry)) (now (abreast .entry)) (s + 1))) ⌝ }
 {
     if p == 0 {
         return true;
@@ -31,33 +31,41 @@ fn beside_last(lines: &[u64], held: &[u16], m: usize, p: usize) -> bool
     if m <= p {
         return true;
     }
-    beside(line_at(lines, held, p - 1), line_at(lines, held, p))
+    beside(line_at(lines, abreast, p - 1), line_at(lines, abreast, p))
 }
 
 // Line i comes in at its end, in the place of those from p to before e, which go out.
-fn come_in(lines: &[u64], held: &mut [u16], m: usize, p: usize, e: usize, i: usize, t: u64) -> bool
+fn come_in(
+    lines: &[u64],
+    abreast: &mut [u16],
+    m: usize,
+    p: usize,
+    e: usize,
+    i: usize,
+    t: u64,
+) -> bool
     requires { ⌜ Onward (length (now lines)) (now lines) ⌝ }
-    requires { ⌜ Held (length (now lines)) (i + 1) t m (now lines) (now held) ⌝ }
-    requires { ⌜ Starting p e (last (getD (now lines) i 0)) (now lines) (now held) ⌝ }
-    requires { ⌜ (e ≤ m) × (m < length (now held)) × (i < length (now lines)) × (length (now lines) ≤ 65535) ⌝ }
+    requires { ⌜ Abreast (length (now lines)) (i + 1) t m (now lines) (now abreast) ⌝ }
+    requires { ⌜ Starting p e (last (getD (now lines) i 0)) (now lines) (now abreast) ⌝ }
+    requires { ⌜ (e ≤ m) × (m < length (now abreast)) × (i < length (now lines)) × (length (now lines) ≤ 65535) ⌝ }
     ensures { λ z. ⌜ (z ≡ true →
-        Held (length (now (lines .entry))) i (last (getD (now (lines .entry)) i 0)) (m + p + 1 - e) (now (lines .entry)) (now (held .exit))) ⌝ }
+        Abreast (length (now (lines .entry))) i (last (getD (now (lines .entry)) i 0)) (m + p + 1 - e) (now (lines .entry)) (now (abreast .exit))) ⌝ }
 {
     if t < lines[i] / HALF {
         return false;
     }
     let left = m + p + 1 - e;
-    replace(held, m, p, e, i as u16);
-    if !beside_last(lines, held, left, p) {
+    replace(abreast, m, p, e, i as u16);
+    if !beside_last(lines, abreast, left, p) {
         return false;
     }
-    beside_last(lines, held, left, p + 1)
+    beside_last(lines, abreast, left, p + 1)
 }
 
 // The lines from p to before e go out.
 fn go_out(
     lines: &[u64],
-    held: &mut [u16],
+    abreast: &mut [u16],
     m: usize,
     p: usize,
     e: usize,
@@ -66,16 +74,16 @@ fn go_out(
     level: u64,
 ) -> bool
     requires { ⌜ Onward (length (now lines)) (now lines) ⌝ }
-    requires { ⌜ Held (length (now lines)) i t m (now lines) (now held) ⌝ }
-    requires { ⌜ Starting p e level (now lines) (now held) ⌝ }
-    requires { ⌜ (e ≤ m) × (m ≤ length (now held)) × (i ≤ length (now lines)) ⌝ }
-    ensures { λ z. ⌜ (z ≡ true → Held (length (now (lines .entry))) i level (m + p - e) (now (lines .entry)) (now (held .exit))) ⌝ }
+    requires { ⌜ Abreast (length (now lines)) i t m (now lines) (now abreast) ⌝ }
+    requires { ⌜ Starting p e level (now lines) (now abreast) ⌝ }
+    requires { ⌜ (e ≤ m) × (m ≤ length (now abreast)) × (i ≤ length (now lines)) ⌝ }
+    ensures { λ z. ⌜ (z ≡ true → Abreast (length (now (lines .entry))) i level (m + p - e) (now (lines .entry)) (now (abreast .exit))) ⌝ }
 {
     if t < level {
         return false;
     }
-    clear_out(held, m, p, e);
-    beside_last(lines, held, m + p - e, p)
+    clear_out(abreast, m, p, e);
+    beside_last(lines, abreast, m + p - e, p)
 }
 
 // ---- which level: any would do
@@ -104,10 +112,11 @@ fn ends_at(lines: &[u64], i: usize, level: u64) -> bool
 
 // ---- the sweep
 
-// Are the lines surely without a clash? A list to work in is lent.
-pub fn clear(lines: &[u64], held: &mut [u16]) -> bool
+// Are the lines surely without a clash? A list to work in is lent. Of a good sheet, seen upright and sorted by ends, of one end first what goes left from it, each
+// guess is right (docs/GROUNDS.md; not proved).
+pub fn clear(lines: &[u64], abreast: &mut [u16]) -> bool
     requires { ⌜ Onward (length (now lines)) (now lines) ⌝ }
-    requires { ⌜ (length (now lines) ≤ 65535) × (length (now lines) ≤ length (now held)) ⌝ }
+    requires { ⌜ (length (now lines) ≤ 65535) × (length (now lines) ≤ length (now abreast)) ⌝ }
     ensures { λ z. ⌜ (z ≡ true → NoClash (length (now (lines .entry))) (now (lines .entry))) ⌝ }
 {
     let mut i = lines.len();
@@ -116,11 +125,11 @@ pub fn clear(lines: &[u64], held: &mut [u16]) -> bool
     let mut soon = 0;
     while 0 < i + m {
         let level = next_level(lines, i, soon);
-        let p = place(lines, held, m, level);
-        let e = starting(lines, held, m, p, level);
+        let p = place(lines, abreast, m, level);
+        let e = starting(lines, abreast, m, p, level);
         if ends_at(lines, i, level) {
             i -= 1;
-            if !come_in(lines, held, m, p, e, i, t) {
+            if !come_in(lines, abreast, m, p, e, i, t) {
                 return false;
             }
             soon = lines[i] % HALF;
@@ -129,7 +138,7 @@ pub fn clear(lines: &[u64], held: &mut [u16]) -> bool
             if p == e {
                 return false;
             }
-            if !go_out(lines, held, m, p, e, i, t, level) {
+            if !go_out(lines, abreast, m, p, e, i, t, level) {
                 return false;
             }
             soon = 0;

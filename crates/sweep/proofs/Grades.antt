@@ -20,7 +20,7 @@ use Rattle.segment.proofs.FourKinds.{one-kind, some-kind, touches→clash}
 use Rattle.sort.specs.inner.Order.{Below, Pairs, Ascending}
 use Rattle.line.specs.inner.Line.{startOf, endOf, first, last, Onward}
 use Rattle.sweep.specs.inner.Meetings.{grade, WorseWith, Met, NoWorse, WorstFrom, Worst}
-use Rattle.neighbours.specs.inner.Held.{NoClash}
+use Rattle.neighbours.specs.inner.Abreast.{NoClash}
 use Rattle.line.proofs.Numbers.{number-first, number-last, start-fits, end-fits}
 
 -- ---- kinds of meeting: all that is said of them by cases

@@ -1,4 +1,5 @@
-// The worst meeting of two lines of a list: lines sorted by their ends, and each compared with those before it that end after it starts.
+// The worst meeting of two lines of a list: lines sorted by their ends, and each compared with those before it that end after it starts. Where that takes long,
+// a sweep that compares neighbours only (`neighbours`) is asked first whether there is anything to be found.
 mod axis;
 mod meeting;
 
@@ -67,8 +68,8 @@ struct Search {
 // As many comparisons as 4,097 lines can need.
 const ALL: usize = 0x100_2001;
 
-// The worst meeting of two lines, of lines sorted by their ends. Stops with the line that has one than which none is worse, and where it has compared
-// so many, and 24 for each line beside.
+// The worst meeting of two lines, of lines sorted by their ends. Stops with the line that has one than which none is worse; and is given up, not whole, where it
+// would have to compare more than `budget` and, for each line, 24.
 fn worst_of(lines: &[u64], budget: usize) -> Search
     requires { ⌜ (length (now lines) ≤ 4097) × (budget ≤ 16785409) ⌝ }
     requires { ⌜ Onward (length (now lines)) (now lines) ⌝ }
@@ -99,8 +100,7 @@ fn worst_of(lines: &[u64], budget: usize) -> Search
     Search { worst, whole: true }
 }
 
-// The worst meeting of two lines, by a search that is given up where it takes long, and not begun where lines lie far abreast. Then they are as they were,
-// if in another order, or turned round.
+// The worst meeting of two lines, by a search that is not begun where lines lie far abreast, and given up where it takes long. Then they are seen upright again.
 fn search_first(lines: &mut [u64], scratch: &mut [u64], view: View) -> Search
     requires { ⌜ (length (now lines) ≤ 4097) × (length (now lines) ≤ length (now scratch)) ⌝ }
     ensures worst { λ r. ⌜ (r .whole ≡ true → Worst (length (now (lines .entry))) (now (lines .entry)) (r .worst)) ⌝ }
@@ -122,18 +122,18 @@ fn search_first(lines: &mut [u64], scratch: &mut [u64], view: View) -> Search
 }
 
 // Are the lines surely without a clash? "No" says nothing.
-pub fn surely_clear(lines: &mut [u64], scratch: &mut [u64], held: &mut [u16]) -> bool
-    requires { ⌜ (length (now lines) ≤ 4097) × (length (now lines) ≤ length (now scratch)) × (length (now lines) ≤ length (now held)) ⌝ }
+pub fn surely_clear(lines: &mut [u64], scratch: &mut [u64], abreast: &mut [u16]) -> bool
+    requires { ⌜ (length (now lines) ≤ 4097) × (length (now lines) ≤ length (now scratch)) × (length (now lines) ≤ length (now abreast)) ⌝ }
     ensures clear { λ z. ⌜ (z ≡ true → Worst (length (now (lines .entry))) (now (lines .entry)) Separate) ⌝ }
     ensures seen { λ _. ⌜ Seen (length (now (lines .entry))) (now (lines .entry)) (now (lines .exit)) ⌝ }
 {
     settle(lines, scratch, false);
-    clear(lines, held)
+    clear(lines, abreast)
 }
 
 // The worst meeting of two lines, whichever way they go. Leaves them seen along an axis and sorted.
-pub fn worst_meeting(lines: &mut [u64], scratch: &mut [u64], held: &mut [u16]) -> Meeting
-    requires { ⌜ (length (now lines) ≤ 4097) × (length (now lines) ≤ length (now scratch)) × (length (now lines) ≤ length (now held)) ⌝ }
+pub fn worst_meeting(lines: &mut [u64], scratch: &mut [u64], abreast: &mut [u16]) -> Meeting
+    requires { ⌜ (length (now lines) ≤ 4097) × (length (now lines) ≤ length (now scratch)) × (length (now lines) ≤ length (now abreast)) ⌝ }
     ensures { λ m. ⌜ Worst (length (now (lines .entry))) (now (lines .entry)) m ⌝ }
 {
     let view = view_of(lines);
@@ -141,7 +141,7 @@ pub fn worst_meeting(lines: &mut [u64], scratch: &mut [u64], held: &mut [u16]) -
     if found.whole {
         return found.worst;
     }
-    if surely_clear(lines, scratch, held) {
+    if surely_clear(lines, scratch, abreast) {
         return Meeting::Separate;
     }
     settle(lines, scratch, view.across);

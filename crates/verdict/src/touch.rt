@@ -1,5 +1,5 @@
 // Conditions 21, 22, 23 and 25 over lines as numbers: two that end at one point, one that goes up, two that cross, two that share another point which does not end both.
-// No node is held against a line: each node has a line that ends at it, so that a node on a line that it does not end shows as two lines that clash
+// No node is abreast against a line: each node has a line that ends at it, so that a node on a line that it does not end shows as two lines that clash
 // (`clashing`, proofs/Places).
 use line::end;
 use line::start;
@@ -52,8 +52,8 @@ fn worst_verdict(worst: Meeting) -> u16
 }
 
 // 21, 22, 23 or 25: the first that holds, or 0.
-fn judge_lines(lines: &mut [u64], scratch: &mut [u64], held: &mut [u16]) -> u16
-    requires { ⌜ (length (now lines) ≤ 4097) × (length (now lines) ≤ length (now scratch)) × (length (now lines) ≤ length (now held)) ⌝ }
+fn judge_lines(lines: &mut [u64], scratch: &mut [u64], abreast: &mut [u16]) -> u16
+    requires { ⌜ (length (now lines) ≤ 4097) × (length (now lines) ≤ length (now scratch)) × (length (now lines) ≤ length (now abreast)) ⌝ }
     ensures { λ r. ⌜ FirstOf (lineConditions (length (now (lines .entry))) (now (lines .entry))) r ⌝ }
 {
     sort(lines, scratch, 32);
@@ -63,13 +63,13 @@ fn judge_lines(lines: &mut [u64], scratch: &mut [u64], held: &mut [u16]) -> u16
     if rises(lines) {
         return 22;
     }
-    worst_verdict(worst_meeting(lines, scratch, held))
+    worst_verdict(worst_meeting(lines, scratch, abreast))
 }
 
 // The same, of the first n lines.
-pub fn judge_first(lines: &mut [u64], scratch: &mut [u64], held: &mut [u16], n: usize) -> u16
-    requires { ⌜ (n ≤ 4097) × (n ≤ length (now lines)) × (n ≤ length (now scratch)) × (n ≤ length (now held)) ⌝ }
+pub fn judge_first(lines: &mut [u64], scratch: &mut [u64], abreast: &mut [u16], n: usize) -> u16
+    requires { ⌜ (n ≤ 4097) × (n ≤ length (now lines)) × (n ≤ length (now scratch)) × (n ≤ length (now abreast)) ⌝ }
     ensures { λ r. ⌜ FirstOf (lineConditions n (now (lines .entry))) r ⌝ }
 {
-    judge_lines(&mut lines[..n], scratch, held)
+    judge_lines(&mut lines[..n], scratch, abreast)
 }

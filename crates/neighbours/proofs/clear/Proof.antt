@@ -1,7 +1,7 @@
--- `clear`: the sweep holds what `Held` says, from before the first line to after the last. Rests on Steps.
+-- `clear`: the sweep holds what `Abreast` says, from before the first line to after the last. Rests on Steps.
 use borrow.Author.Needs.{needs}
-use Rattle.neighbours.proofs.Steps.{held-none, held-over}
-use Rattle.neighbours.specs.inner.Held.{Starting, Held}
+use Rattle.neighbours.proofs.Steps.{abreast-none, abreast-over}
+use Rattle.neighbours.specs.inner.Abreast.{Starting, Abreast}
 use borrow.Author.Tests.{not-false}
 use lib.ListN.{length}
 use lib.Dec.{T}
@@ -12,13 +12,13 @@ use Rattle.neighbours.proofs.clear.Statement.{statement}
 use Rattle.neighbours.proofs.clear.Tie as tie
 
 abbrev Inv-loop : tie.InvT-loop
-Inv-loop lines held₀ i₀ m₀ t₀ soon₀ held i m t soon = (i + m ≤ length lines) × (length held ≡ length held₀) × Held (length lines) i t m lines held
+Inv-loop lines abreast₀ i₀ m₀ t₀ soon₀ abreast i m t soon = (i + m ≤ length lines) × (length abreast ≡ length abreast₀) × Abreast (length lines) i t m lines abreast
 
 abbrev μ-loop : tie.MeasureT-loop
-μ-loop lines held₀ i₀ m₀ t₀ soon₀ held i m t soon = i + i + m
+μ-loop lines abreast₀ i₀ m₀ t₀ soon₀ abreast i m t soon = i + i + m
 
 loop-holds : tie.Need-loop-holds Inv-loop μ-loop
-loop-holds c = (omega arith, omega arith, held-none _ _ _ _)
+loop-holds c = (omega arith, omega arith, abreast-none _ _ _ _)
 
 add-loop : tie.Need-add-loop Inv-loop μ-loop
 add-loop c = search needs
@@ -45,9 +45,9 @@ come-in-requires c κs =
     let f = c .before .before .ends-at .ensures (c .before .if1 .taken) in (
       s .pre .0,
       (
-        subst (λ (n : ℕ). Held (length (s .args .lines .now)) n (l .t) (l .m) (s .args .lines .now) (l .held)) (omega (arith, f .0)) (l .inv .2),
+        subst (λ (n : ℕ). Abreast (length (s .args .lines .now)) n (l .t) (l .m) (s .args .lines .now) (l .abreast)) (omega (arith, f .0)) (l .inv .2),
         (
-          subst (λ (t : ℕ). Starting (c .before .before .before .before .before .place .result) (c .before .before .before .starting .result) t (s .args .lines .now) (l .held)) (sym (f .1)) (c .before .before .before .starting .ensures .1),
+          subst (λ (t : ℕ). Starting (c .before .before .before .before .before .place .result) (c .before .before .before .starting .result) t (s .args .lines .now) (l .abreast)) (sym (f .1)) (c .before .before .before .starting .ensures .1),
           (omega arith, omega (arith, f .0), omega (arith, f .0), omega arith),
         ),
       ),
@@ -106,7 +106,7 @@ loop-again c =
     let m = l .m + c .before .before .before .before .before .before .before .before .before .before .place .result + 1 - c .before .before .before .before .before .before .before .before .starting .result in (
       omega (arith, f .0, c .before .before .before .before .before .before .before .before .starting .ensures .1 .onward),
       omega arith,
-      subst (λ (t : ℕ). Held (length (s .args .lines .now)) (l .i - 1) t m (s .args .lines .now) (c .before .before .before .before .come-in .last .1 .0)) (f .1)
+      subst (λ (t : ℕ). Abreast (length (s .args .lines .now)) (l .i - 1) t m (s .args .lines .now) (c .before .before .before .before .come-in .last .1 .0)) (f .1)
           (c .before .before .before .before .come-in .ensures (not-false _ (c .before .if2 .left))),
     )
 
@@ -123,7 +123,7 @@ returns-4 : tie.Need-returns-4 Inv-loop μ-loop
 returns-4 c = λ z.
     let s = c .before .before .before .before in
     let l = c .before .loop in
-    held-over (s .pre .0) (subst₂ (λ (i m : ℕ). Held (length (s .args .lines .now)) i (l .t) m (s .args .lines .now) (l .held)) (omega arith) (omega arith) (l .inv .2))
+    abreast-over (s .pre .0) (subst₂ (λ (i m : ℕ). Abreast (length (s .args .lines .now)) i (l .t) m (s .args .lines .now) (l .abreast)) (omega arith) (omega arith) (l .inv .2))
 
 pub clear-spec : {M : Type 1} → statement M
 clear-spec =

@@ -1,5 +1,5 @@
 -- `come_in`: the level is reached, and the new line is beside its neighbours. Rests on Steps.
-use Rattle.neighbours.proofs.Steps.{in-below, held-in}
+use Rattle.neighbours.proofs.Steps.{in-below, abreast-in}
 use borrow.Author.Tests.{not-false}
 use lib.Dec.{T}
 use mathlib.Core.Path.{sym, subst}
@@ -51,7 +51,7 @@ same-length-2 : tie.Need-same-length-2
 same-length-2 c = search needs
 
 returns-3 : tie.Need-returns-3
-returns-3 c = λ z. let s = c .before .before .before .before .before .before .before .before .before .before .before .before .before in held-in (s .pre .0) (s .pre .1 .0) (s .pre .1 .1 .0) (omega arith) (omega arith) (c .before .before .before .before .before .before .before .replace .ensures) (omega arith)
+returns-3 c = λ z. let s = c .before .before .before .before .before .before .before .before .before .before .before .before .before in abreast-in (s .pre .0) (s .pre .1 .0) (s .pre .1 .1 .0) (omega arith) (omega arith) (c .before .before .before .before .before .before .before .replace .ensures) (omega arith)
     (c .before .before .before .beside-last .ensures (not-false _ (c .before .before .if2 .left))) (c .beside-last2 .ensures z)
 
 pub come-in-spec : {M : Type 1} → statement M

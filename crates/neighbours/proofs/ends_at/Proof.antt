@@ -1,5 +1,5 @@
-use borrow.Author.Tests.{eqb-true}
 -- `ends_at`: as it is tested.
+use borrow.Author.Tests.{eqb-true}
 use native.Mathlib.Omega.{arith}
 use lib.Dec.{T}
 use mathlib.Core.Path.{sym, subst}

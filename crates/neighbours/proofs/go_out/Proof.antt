@@ -1,5 +1,5 @@
 -- `go_out`: the level is reached, and the lines that are neighbours now are side by side. Rests on Steps.
-use Rattle.neighbours.proofs.Steps.{out-below, held-out}
+use Rattle.neighbours.proofs.Steps.{out-below, abreast-out}
 use lib.Dec.{T}
 use mathlib.Core.Path.{sym, subst}
 use native.Mathlib.Omega.{arith}
@@ -26,7 +26,7 @@ same-length : tie.Need-same-length
 same-length c = search needs
 
 returns-2 : tie.Need-returns-2
-returns-2 c = λ z. let s = c .before .before .before .before .before .before .before .before .before in held-out (s .pre .0) (s .pre .1 .0) (s .pre .1 .1 .0) (omega arith) (omega arith) (c .before .before .before .before .clear-out .ensures) (omega arith) (c .beside-last .ensures z)
+returns-2 c = λ z. let s = c .before .before .before .before .before .before .before .before .before in abreast-out (s .pre .0) (s .pre .1 .0) (s .pre .1 .1 .0) (omega arith) (omega arith) (c .before .before .before .before .clear-out .ensures) (omega arith) (c .beside-last .ensures z)
 
 pub go-out-spec : {M : Type 1} → statement M
 go-out-spec =

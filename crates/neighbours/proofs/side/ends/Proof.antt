@@ -1,7 +1,6 @@
-use borrow.Author.Tests.{eqb-true}
 -- `ends`: numbers that are the same are of one point.
+use borrow.Author.Tests.{eqb-true}
 use Rattle.line.specs.inner.Line.{startOf}
-use native.Mathlib.Omega.{arith}
 use mathlib.Core.Path.{ap}
 use mathlib.Core.Logic.{inl, inr}
 use Rattle.neighbours.proofs.side.ends.Statement.{statement}

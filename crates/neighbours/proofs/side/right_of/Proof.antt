@@ -5,7 +5,6 @@ use lib.IntN.{pos}
 use lib.Signed.{ltZ}
 use mir.Syntax.{w64}
 use Rattle.segment.proofs.Range.{given}
--- `right_of`: the cross product is below zero.
 use lib.Dec.{T}
 use mathlib.Core.Path.{_≡_, sym, ap, subst, _∙_}
 use borrow.Author.Needs.{needs}

@@ -3,8 +3,8 @@ use Rattle.neighbours.proofs.Moves.{written-over, replaced-at}
 use mathlib.Core.Path.{refl}
 use native.Mathlib.Omega.{arith}
 use borrow.Author.Needs.{needs}
-use Rattle.neighbours.proofs.held.replace.Statement.{statement}
-use Rattle.neighbours.proofs.held.replace.Tie as tie
+use Rattle.neighbours.proofs.abreast.replace.Statement.{statement}
+use Rattle.neighbours.proofs.abreast.replace.Tie as tie
 
 insert-requires : tie.Need-insert-requires
 insert-requires c κs = search needs
@@ -21,11 +21,11 @@ add-clear-out c = search needs
 clear-out-requires : tie.Need-clear-out-requires
 clear-out-requires c κs = search needs
 
-mul-held : tie.Need-mul-held
-mul-held c = search needs
+mul-abreast : tie.Need-mul-abreast
+mul-abreast c = search needs
 
-slice-write-held : tie.Need-slice-write-held
-slice-write-held c = search needs
+slice-write-abreast : tie.Need-slice-write-abreast
+slice-write-abreast c = search needs
 
 same-length-2 : tie.Need-same-length-2
 same-length-2 c = search needs
@@ -42,7 +42,7 @@ replace-spec =
     returns
     add-clear-out
     clear-out-requires
-    mul-held
-    slice-write-held
+    mul-abreast
+    slice-write-abreast
     same-length-2
     returns-2)

@@ -1,19 +1,19 @@
 -- `starting`: each line on the way starts at the level. Rests on Moves.
 use borrow.Author.Needs.{needs}
 use Rattle.neighbours.proofs.Moves.{starting-none, starting-more}
-use Rattle.neighbours.specs.inner.Held.{Starting}
+use Rattle.neighbours.specs.inner.Abreast.{Starting}
 use Rattle.line.specs.inner.Line.{first}
 use Prim.Native.Nat.{_-_, _≤_}
 use mathlib.Core.Path.{sym, ap, _∙_}
 use native.Mathlib.Omega.{arith}
-use Rattle.neighbours.proofs.held.starting.Statement.{statement}
-use Rattle.neighbours.proofs.held.starting.Tie as tie
+use Rattle.neighbours.proofs.abreast.starting.Statement.{statement}
+use Rattle.neighbours.proofs.abreast.starting.Tie as tie
 
 abbrev Inv-loop : tie.InvT-loop
-Inv-loop lines held m p level e₀ e = (e ≤ m) × Starting p e level lines held
+Inv-loop lines abreast m p level e₀ e = (e ≤ m) × Starting p e level lines abreast
 
 abbrev μ-loop : tie.MeasureT-loop
-μ-loop lines held m p level e₀ e = m - e
+μ-loop lines abreast m p level e₀ e = m - e
 
 loop-holds : tie.Need-loop-holds Inv-loop μ-loop
 loop-holds c = (omega arith, starting-none _ _ _ _)

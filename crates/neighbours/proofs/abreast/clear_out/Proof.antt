@@ -1,19 +1,19 @@
 -- `clear_out`: one after the other. Rests on Moves.
 use borrow.Author.Needs.{needs}
 use Rattle.neighbours.proofs.Moves.{none-out, more-out, replaced-at}
-use Rattle.neighbours.specs.inner.Held.{Replaced}
+use Rattle.neighbours.specs.inner.Abreast.{Replaced}
 use lib.ListN.{length}
 use mathlib.Core.Path.{_≡_}
 use Prim.Native.Nat.{_+_, _≤_, _-_}
 use native.Mathlib.Omega.{arith}
-use Rattle.neighbours.proofs.held.clear_out.Statement.{statement}
-use Rattle.neighbours.proofs.held.clear_out.Tie as tie
+use Rattle.neighbours.proofs.abreast.clear_out.Statement.{statement}
+use Rattle.neighbours.proofs.abreast.clear_out.Tie as tie
 
 abbrev Inv-loop : tie.InvT-loop
-Inv-loop held₀ m p e gone₀ left₀ held gone left = (p ≤ gone) × (gone ≤ e) × (left + gone ≡ m + p) × (length held ≡ length held₀) × Replaced 0 m p gone 0 held₀ held
+Inv-loop abreast₀ m p e gone₀ left₀ abreast gone left = (p ≤ gone) × (gone ≤ e) × (left + gone ≡ m + p) × (length abreast ≡ length abreast₀) × Replaced 0 m p gone 0 abreast₀ abreast
 
 abbrev μ-loop : tie.MeasureT-loop
-μ-loop held₀ m p e gone₀ left₀ held gone left = e - gone
+μ-loop abreast₀ m p e gone₀ left₀ abreast gone left = e - gone
 
 loop-holds : tie.Need-loop-holds Inv-loop μ-loop
 loop-holds c = (omega arith, omega arith, omega arith, omega arith, none-out _ _ _)

@@ -1,15 +1,15 @@
--- `place`: the place is among those of the lines held.
+-- `place`: the place is among those of the lines abreast.
 use borrow.Author.Needs.{needs}
 use Prim.Native.Nat.{_+_, _≤_, _-_, _/_}
 use native.Mathlib.Omega.{arith}
-use Rattle.neighbours.proofs.held.place.Statement.{statement}
-use Rattle.neighbours.proofs.held.place.Tie as tie
+use Rattle.neighbours.proofs.abreast.place.Statement.{statement}
+use Rattle.neighbours.proofs.abreast.place.Tie as tie
 
 abbrev Inv-loop : tie.InvT-loop
-Inv-loop lines held m level point low₀ high₀ low high = (low ≤ high) × (high ≤ m)
+Inv-loop lines abreast m level point low₀ high₀ low high = (low ≤ high) × (high ≤ m)
 
 abbrev μ-loop : tie.MeasureT-loop
-μ-loop lines held m level point low₀ high₀ low high = high - low
+μ-loop lines abreast m level point low₀ high₀ low high = high - low
 
 start-requires : tie.Need-start-requires Inv-loop μ-loop
 start-requires c κs = search needs

@@ -36,7 +36,7 @@ pub record Clear (t x y : ℕ) : Type 0 where
 
 -- Of n lines those from i on came in, each at the level t or above; a holds the places of m of them, each beside the next, and of all that start below t.
 -- If none that it holds starts above t, no two that came in clash at t or above.
-pub record Held (n i t m : ℕ) (l a : List ℕ) : Type 0 where
+pub record Abreast (n i t m : ℕ) (l a : List ℕ) : Type 0 where
   pub from : (p : ℕ) → p < m → i ≤ getD a p 0
   pub below : (p : ℕ) → p < m → getD a p 0 < n
   pub come : (p : ℕ) → p < m → t ≤ last (at l a p)

@@ -4,14 +4,14 @@ use Rattle.neighbours.proofs.Moves.{Closed, closed-none, closed-more, c
 use lib.ListN.{length, length-set}
 use Prim.Native.Nat.{_≤_, _<_, _-_}
 use native.Mathlib.Omega.{arith}
-use Rattle.neighbours.proofs.held.take.Statement.{statement}
-use Rattle.neighbours.proofs.held.take.Tie as tie
+use Rattle.neighbours.proofs.abreast.take.Statement.{statement}
+use Rattle.neighbours.proofs.abreast.take.Tie as tie
 
 abbrev Inv-loop : tie.InvT-loop
-Inv-loop held₀ m p j₀ held j = (p < j) × (j ≤ m) × (m ≤ length held) × Closed p j held₀ held
+Inv-loop abreast₀ m p j₀ abreast j = (p < j) × (j ≤ m) × (m ≤ length abreast) × Closed p j abreast₀ abreast
 
 abbrev μ-loop : tie.MeasureT-loop
-μ-loop held₀ m p j₀ held j = m - j
+μ-loop abreast₀ m p j₀ abreast j = m - j
 
 add-j : tie.Need-add-j Inv-loop μ-loop
 add-j c = search needs
@@ -19,20 +19,20 @@ add-j c = search needs
 loop-holds : tie.Need-loop-holds Inv-loop μ-loop
 loop-holds c = (omega arith, omega arith, omega arith, closed-none _ _)
 
-mul-held : tie.Need-mul-held Inv-loop μ-loop
-mul-held c = search needs
+mul-abreast : tie.Need-mul-abreast Inv-loop μ-loop
+mul-abreast c = search needs
 
-slice-read-held : tie.Need-slice-read-held Inv-loop μ-loop
-slice-read-held c = search needs
+slice-read-abreast : tie.Need-slice-read-abreast Inv-loop μ-loop
+slice-read-abreast c = search needs
 
-sub-held : tie.Need-sub-held Inv-loop μ-loop
-sub-held c = search needs
+sub-abreast : tie.Need-sub-abreast Inv-loop μ-loop
+sub-abreast c = search needs
 
-mul-held-2 : tie.Need-mul-held-2 Inv-loop μ-loop
-mul-held-2 c = search needs
+mul-abreast-2 : tie.Need-mul-abreast-2 Inv-loop μ-loop
+mul-abreast-2 c = search needs
 
-slice-write-held : tie.Need-slice-write-held Inv-loop μ-loop
-slice-write-held c = search needs
+slice-write-abreast : tie.Need-slice-write-abreast Inv-loop μ-loop
+slice-write-abreast c = search needs
 
 add-j-2 : tie.Need-add-j-2 Inv-loop μ-loop
 add-j-2 c = search needs
@@ -57,11 +57,11 @@ take-spec =
     μ-loop
     add-j
     loop-holds
-    mul-held
-    slice-read-held
-    sub-held
-    mul-held-2
-    slice-write-held
+    mul-abreast
+    slice-read-abreast
+    sub-abreast
+    mul-abreast-2
+    slice-write-abreast
     add-j-2
     loop-less
     loop-again
