@@ -57,7 +57,8 @@ spot b P Q {q} {x} {y} one up low high = go (decLt (number b P) (number b Q))
 -- ---- levels and columns carry on
 
 level-on : {b q x y q′ x′ y′ q″ x″ y″ : ℕ} → 1 ≤ q → Level b q x y q′ x′ y′ → Level b q x y q″ x″ y″ → Level b q′ x′ y′ q″ x″ y″
-level-on {b} {q} {x} {y} {q′} {x′} {y′} {q″} {x″} {y″} one e f = record { level = eq-of-mul-eq-mul-left q one _ _ (go (b * y + x) (b * y′ + x′) (b * y″ + x″) (e .level) (f .level)) }
+level-on {b} {q} {x} {y} {q′} {x′} {y′} {q″} {x″} {y″} one e f =
+    record { level = eq-of-mul-eq-mul-left q one _ _ (go (b * y + x) (b * y′ + x′) (b * y″ + x″) (e .level) (f .level)) }
   where
     go : (s t w : ℕ) → s * q′ ≡ t * q → s * q″ ≡ w * q → q * (t * q″) ≡ q * (w * q′)
     go s t w g h = omega (arith, ap (λ (n : ℕ). q″ * n) g, ap (λ (n : ℕ). q′ * n) h)
@@ -82,9 +83,11 @@ pub under-next : {b : ℕ} {P Q R S : Point} {q x y : ℕ} → 1 ≤ q → Weigh
 under-next one a o = record { left = λ c e. o .left a c e; common = λ one′ c e f. o .common one one′ a c e f }
 
 same-is : {E F : Point} {q x y : ℕ} → 1 ≤ q → Is E q x y → Is F q x y → E ≡ F
-same-is {E} {F} {q} one i j = point (eq-of-mul-eq-mul-left q one _ _ (sym (i .in-column) ∙ j .in-column)) (eq-of-mul-eq-mul-left q one _ _ (sym (i .in-row) ∙ j .in-row))
+same-is {E} {F} {q} one i j =
+    point (eq-of-mul-eq-mul-left q one _ _ (sym (i .in-column) ∙ j .in-column)) (eq-of-mul-eq-mul-left q one _ _ (sym (i .in-row) ∙ j .in-row))
 
-pub under-more : {b : ℕ} {P Q R S G H : Point} {q x y : ℕ} → 0 < b → 1 ≤ q → Under b P Q q x y R S → Spot b R S q x y → Ordered b R S G H → Under b P Q q x y G H
+pub under-more : {b : ℕ} {P Q R S G H : Point} {q x y : ℕ} → 0 < b → 1 ≤ q → Under b P Q q x y R S → Spot b R S q x y → Ordered b R S G H →
+    Under b P Q q x y G H
 under-more {b} {P} {Q} {R} {S} {G} {H} {q} {x} {y} h one u s o = record {
   left = λ c e. ascend q x (s .q′) (s .x′) _ _ (s .one) (u .left (s .on) (s .level)) (o .left (s .on) c (level-on one (s .level) e));
   common = λ one″ c e f.

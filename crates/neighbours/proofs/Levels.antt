@@ -1,4 +1,5 @@
--- Points (x, y) / q of two lines on one level, that is with one number: which is to the left, by the sides on which the ends of one line are of the other. Rests on the laws of segments.
+-- Points (x, y) / q of two lines on one level, that is with one number: which is to the left, by the sides on which the ends of one line are of the other.
+-- Rests on the laws of segments.
 use mathlib.Core.Path.{_≡_, refl, ap, sym, _∙_, subst}
 use mathlib.Core.Logic.{_⊎_, inl, inr}
 use Prim.Native.Nat.{ℕ, _+_, _*_, _-_, _≤_, _<_}
@@ -22,10 +23,12 @@ abbrev pub minusAt : Point → Point → ℕ → ℕ → ℕ → ℕ
 minusAt P Q q x y = q * (P .row * Q .column) + Q .row * x + y * P .column
 
 plus-at : (P Q : Point) {R S : Point} {q x y : ℕ} (a : Weights R S q x y) → a .u * plus P Q R + a .v * plus P Q S ≡ plusAt P Q q x y
-plus-at P Q a = omega (arith, ap (λ (n : ℕ). n * (P .column * Q .row)) (a .sum), ap (λ (n : ℕ). Q .column * n) (a .in-row), ap (λ (n : ℕ). n * P .row) (a .in-column))
+plus-at P Q a =
+    omega (arith, ap (λ (n : ℕ). n * (P .column * Q .row)) (a .sum), ap (λ (n : ℕ). Q .column * n) (a .in-row), ap (λ (n : ℕ). n * P .row) (a .in-column))
 
 minus-at : (P Q : Point) {R S : Point} {q x y : ℕ} (a : Weights R S q x y) → a .u * minus P Q R + a .v * minus P Q S ≡ minusAt P Q q x y
-minus-at P Q a = omega (arith, ap (λ (n : ℕ). n * (P .row * Q .column)) (a .sum), ap (λ (n : ℕ). Q .row * n) (a .in-column), ap (λ (n : ℕ). n * P .column) (a .in-row))
+minus-at P Q a =
+    omega (arith, ap (λ (n : ℕ). n * (P .row * Q .column)) (a .sum), ap (λ (n : ℕ). Q .row * n) (a .in-column), ap (λ (n : ℕ). n * P .column) (a .in-row))
 
 -- On P Q itself it is zero.
 on-zero : (P Q : Point) {q x y : ℕ} (a : Weights P Q q x y) → plusAt P Q q x y ≡ minusAt P Q q x y
@@ -39,15 +42,18 @@ pub level-back : {b q x y q′ x′ y′ : ℕ} → Level b q x y q′ x′ y′
 level-back e = record { level = sym (e .level) }
 
 -- For a point of a line from (c, r) to (d, s), and any point on its level: the side of the line on which that is says which is to the left.
-side : (b f x y x′ y′ c r d s : ℕ) → d * (b * y + x) ≡ d * (b * y′ + x′) → b * (f + d * y′ + x′ * r) + x′ * (b * s + d) + x * (b * r + c) ≡ b * (f + d * y + x * r) + (d * x + b * x′ * r + b * x′ * s + x * c)
+side : (b f x y x′ y′ c r d s : ℕ) → d * (b * y + x) ≡ d * (b * y′ + x′) →
+    b * (f + d * y′ + x′ * r) + x′ * (b * s + d) + x * (b * r + c) ≡ b * (f + d * y + x * r) + (d * x + b * x′ * r + b * x′ * s + x * c)
 side b f x y x′ y′ c r d s e = omega arith
 
-side′ : (b g x y x′ y′ c r d s : ℕ) → c * (b * y + x) ≡ c * (b * y′ + x′) → b * (g + s * x′ + y′ * c) + x′ * (b * r + c) + x * (b * s + d) ≡ b * (g + s * x + y * c) + (d * x + b * x′ * r + b * x′ * s + x * c)
+side′ : (b g x y x′ y′ c r d s : ℕ) → c * (b * y + x) ≡ c * (b * y′ + x′) →
+    b * (g + s * x′ + y′ * c) + x′ * (b * r + c) + x * (b * s + d) ≡ b * (g + s * x + y * c) + (d * x + b * x′ * r + b * x′ * s + x * c)
 side′ b g x y x′ y′ c r d s e = omega arith
 
 sides : (b x y x′ y′ c r d s f g : ℕ) → f + d * y + x * r ≡ g + s * x + y * c → b * y + x ≡ b * y′ + x′ →
     b * (f + d * y′ + x′ * r) + x′ * (b * s + d) + x * (b * r + c) ≡ b * (g + s * x′ + y′ * c) + x′ * (b * r + c) + x * (b * s + d)
-sides b x y x′ y′ c r d s f g z e = side b f x y x′ y′ c r d s (ap (λ (n : ℕ). d * n) e) ∙ ap (λ (n : ℕ). b * n + (d * x + b * x′ * r + b * x′ * s + x * c)) z ∙
+sides b x y x′ y′ c r d s f g z e =
+    side b f x y x′ y′ c r d s (ap (λ (n : ℕ). d * n) e) ∙ ap (λ (n : ℕ). b * n + (d * x + b * x′ * r + b * x′ * s + x * c)) z ∙
     sym (side′ b g x y x′ y′ c r d s (ap (λ (n : ℕ). c * n) e))
 
 times : (k f d y r x : ℕ) → k * (f + d * y + x * r) ≡ k * f + d * (k * y) + k * x * r
@@ -76,7 +82,8 @@ module _ (b : ℕ) {P Q : Point} {q x y q′ x′ y′ : ℕ} (a : Weights P Q q
   sided =
       let f = q * (q′ * (P .column * Q .row)) in
       let g = q * (q′ * (P .row * Q .column)) in
-      let z : f + Q .column * (q′ * y) + q′ * x * P .row ≡ g + Q .row * (q′ * x) + q′ * y * P .column = omega (arith, ap (λ (n : ℕ). q′ * n) (on-zero P Q a)) in
+      let z : f + Q .column * (q′ * y) + q′ * x * P .row ≡ g + Q .row * (q′ * x) + q′ * y * P .column =
+      omega (arith, ap (λ (n : ℕ). q′ * n) (on-zero P Q a)) in
       rw (times q (q′ * (P .column * Q .row)) (Q .column) y′ (P .row) x′, times q (q′ * (P .row * Q .column)) (Q .row) x′ (P .column) y′)
       (sides b (q′ * x) (q′ * y) (q * x′) (q * y′) (P .column) (P .row) (Q .column) (Q .row) f g z (omega (arith, e .level)))
 
@@ -137,10 +144,13 @@ module _ {P Q R S : Point} (h : Beyond P Q R S) {q′ x′ y′ : ℕ} (c : Weig
 
       go : Beyond P Q R S → Dec (0 < c .u) → Dec (0 < c .v) → EndAt P Q R S q′ x′ y′
       go (inl (r, e)) i j = record { E = R; first = r; second = inl refl; is = at-point c (sym e) }
-      go (inr (inl (inl r, s))) i (yes j) = absurd (omega (arith, both, mul-le-mul-left (c .u) (weakly (start-side h)), mul-le-mul-left (c .v) (right-side P Q S s)))
+      go (inr (inl (inl r, s))) i (yes j) =
+          absurd (omega (arith, both, mul-le-mul-left (c .u) (weakly (start-side h)), mul-le-mul-left (c .v) (right-side P Q S s)))
       go (inr (inl (inl r, s))) i (no j) = record { E = R; first = r; second = inl refl; is = at-end c (omega arith) }
-      go (inr (inl (inr r, s))) i j = absurd (omega (arith, both, c .sum, mul-le-mul-left (c .v) (right-side P Q S s), mul-le-mul-left (c .u) (right-side P Q R r)))
-      go (inr (inr (r, s))) (yes i) j = absurd (omega (arith, both, mul-le-mul-left (c .v) (weakly (end-side h)), mul-le-mul-left (c .u) (right-side P Q R r)))
+      go (inr (inl (inr r, s))) i j =
+          absurd (omega (arith, both, c .sum, mul-le-mul-left (c .v) (right-side P Q S s), mul-le-mul-left (c .u) (right-side P Q R r)))
+      go (inr (inr (r, s))) (yes i) j =
+          absurd (omega (arith, both, mul-le-mul-left (c .v) (weakly (end-side h)), mul-le-mul-left (c .u) (right-side P Q R r)))
       go (inr (inr (r, s))) (no i) j = record { E = S; first = s; second = inr refl; is = at-end (turned c) (omega arith) }
 
   -- where P Q is a point, so is R S, and the same
@@ -164,7 +174,8 @@ module _ {P Q R S : Point} (h : Beyond P Q R S) {q′ x′ y′ : ℕ} (c : Weig
 -- P Q is to the left of R S on each level that both have, but at common ends.
 pub record Ordered (b : ℕ) (P Q R S : Point) : Type 0 where
   pub left : {q x y q′ x′ y′ : ℕ} → Weights P Q q x y → Weights R S q′ x′ y′ → Level b q x y q′ x′ y′ → q′ * x ≤ q * x′
-  pub common : {q x y q′ x′ y′ : ℕ} → 1 ≤ q → 1 ≤ q′ → Weights P Q q x y → Weights R S q′ x′ y′ → Level b q x y q′ x′ y′ → q′ * x ≡ q * x′ → EndAt P Q R S q x y
+  pub common : {q x y q′ x′ y′ : ℕ} → 1 ≤ q → 1 ≤ q′ → Weights P Q q x y → Weights R S q′ x′ y′ → Level b q x y q′ x′ y′ → q′ * x ≡ q * x′ →
+      EndAt P Q R S q x y
 
 -- points of one column and level are the same
 pub is-moved : (b : ℕ) {E : Point} {q x y q′ x′ y′ : ℕ} → 0 < b → 1 ≤ q′ → Level b q x y q′ x′ y′ → q′ * x ≡ q * x′ → Is E q′ x′ y′ → Is E q x y
@@ -179,7 +190,8 @@ module _ (b : ℕ) {P Q R S : Point} (p : P .column < b) (q : Q .column < b) (up
   pub right-ordered : Beyond P Q R S → Ordered b P Q R S
   right-ordered h = record {
     left = λ a c e. go a c e (decLt (number b P) (number b Q));
-    common = λ one one′ a c e f. let t = tie h c one′ (on-side b a e (omega arith) one f) in record { E = t .E; first = t .first; second = t .second; is = is-moved b (omega arith) one′ e f (t .is) };
+    common = λ one one′ a c e f. let t = tie h c one′ (on-side b a e (omega arith) one f) in
+        record { E = t .E; first = t .first; second = t .second; is = is-moved b (omega arith) one′ e f (t .is) };
   }
     where
       go : {q x y q′ x′ y′ : ℕ} (a : Weights P Q q x y) (c : Weights R S q′ x′ y′) → Level b q x y q′ x′ y′ → Dec (number b P < number b Q) → q′ * x ≤ q * x′
@@ -189,7 +201,8 @@ module _ (b : ℕ) {P Q R S : Point} (p : P .column < b) (q : Q .column < b) (up
   pub left-ordered : Beyond Q P R S → Ordered b R S P Q
   left-ordered h = record {
     left = λ a c e. go c a (level-back e) (decLt (number b P) (number b Q));
-    common = λ one one′ a c e f. let t = tie h a one (on-side b (turned c) (level-back e) (omega arith) one′ (sym f)) in record { E = t .E; first = t .second; second = back (t .first); is = t .is };
+    common = λ one one′ a c e f. let t = tie h a one (on-side b (turned c) (level-back e) (omega arith) one′ (sym f)) in
+        record { E = t .E; first = t .second; second = back (t .first); is = t .is };
   }
     where
       back : {E : Point} → Ends E Q P → Ends E P Q

@@ -1,4 +1,5 @@
--- For the proofs of the functions: the loops that move elements of a list, over plain lists, and what the answers of calls say. Rests on nothing of the sweep.
+-- For the proofs of the functions: the loops that move elements of a list, over plain lists, and what the answers of calls say. Rests on nothing of the
+-- sweep.
 use mathlib.Core.Path.{_≡_, refl, ap, sym, _∙_, subst, subst₂}
 use mathlib.Core.List.{List}
 use Prim.Native.Nat.{ℕ, _+_, _-_, _≤_, _<_}
@@ -32,7 +33,8 @@ opened-more {m} {j} {a} {b} h k o = record {
 }
   where
     go : (s : ℕ) → j - 1 ≤ s → s < m → Dec (s + 1 ≡ j) → getD (set b j (getD b (j - 1) 0)) (s + 1) 0 ≡ getD a s 0
-    go s u v (yes e) = ap (λ (z : ℕ). getD (set b j (getD b (j - 1) 0)) z 0) e ∙ getD-set-same b j _ 0 k ∙ o .before (j - 1) (omega arith) ∙ ap (λ (z : ℕ). getD a z 0) (omega arith)
+    go s u v (yes e) = ap (λ (z : ℕ). getD (set b j (getD b (j - 1) 0)) z 0) e ∙ getD-set-same b j _ 0 k ∙ o .before (j - 1) (omega arith) ∙
+        ap (λ (z : ℕ). getD a z 0) (omega arith)
     go s u v (no e) = getD-set-other b j (s + 1) _ 0 e ∙ o .after s (omega arith) v
 
 pub opened-all : {m j p k : ℕ} {a b : List ℕ} → j ≡ p → p < length b → Opened m j a b → Replaced 1 m p p k a (set b p k)
@@ -62,7 +64,8 @@ closed-more {p} {j} {a} {b} h k o = record {
 }
   where
     go : (s : ℕ) → p ≤ s → s + 1 < j + 1 → Dec (s + 1 ≡ j) → getD (set b (j - 1) (getD b j 0)) s 0 ≡ getD a (s + 1) 0
-    go s u v (yes e) = ap (λ (z : ℕ). getD (set b (j - 1) (getD b j 0)) z 0) (omega arith) ∙ getD-set-same b (j - 1) _ 0 (omega arith) ∙ o .rest j (omega arith) ∙ ap (λ (z : ℕ). getD a z 0) (sym e)
+    go s u v (yes e) = ap (λ (z : ℕ). getD (set b (j - 1) (getD b j 0)) z 0) (omega arith) ∙ getD-set-same b (j - 1) _ 0 (omega arith) ∙
+        o .rest j (omega arith) ∙ ap (λ (z : ℕ). getD a z 0) (sym e)
     go s u v (no e) = getD-set-other b (j - 1) s _ 0 (omega arith) ∙ o .after s u (omega arith)
 
 pub closed-all : {m j p : ℕ} {a b : List ℕ} → m ≤ j → Closed p j a b → Replaced 0 m p (p + 1) 0 a b
@@ -81,7 +84,8 @@ pub more-out : {m n p e : ℕ} {a b c : List ℕ} → n + e ≡ m + p → p ≤ 
 more-out {m} {n} {p} {e} {a} {b} {c} f h r q = record {
   before = λ s u. q .before s u ∙ r .before s u;
   here = λ u. absurd (omega arith);
-  after = λ s u. q .after s (omega arith) ∙ ap (λ (z : ℕ). getD b z 0) (omega arith) ∙ r .after (1 + s) (omega arith) ∙ ap (λ (z : ℕ). getD a z 0) (omega arith);
+  after =
+      λ s u. q .after s (omega arith) ∙ ap (λ (z : ℕ). getD b z 0) (omega arith) ∙ r .after (1 + s) (omega arith) ∙ ap (λ (z : ℕ). getD a z 0) (omega arith);
 }
 
 -- ---- replace: all but the first are taken out, and that is written over

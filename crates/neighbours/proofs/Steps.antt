@@ -73,7 +73,8 @@ meets-back c = record { one = c .one; on-X = c .on-Y; on-Y = c .on-X; apart = λ
 
 -- ---- lines each beside the next, on a level that all have
 
-module _ (f : ℕ → ℕ) (m q x y : ℕ) (one : 1 ≤ q) (spans : (s : ℕ) → s < m → Spans (f s) q (65536 * y + x)) (next : (s : ℕ) → s + 1 < m → Next (f s) (f (s + 1))) where
+module _ (f : ℕ → ℕ) (m q x y : ℕ) (one : 1 ≤ q) (spans : (s : ℕ) → s < m → Spans (f s) q (65536 * y + x)) (next : (s : ℕ) → s + 1 < m →
+    Next (f s) (f (s + 1))) where
   beside : (s : ℕ) → s + 1 < m → Ordered 65536 (startOf (f s)) (endOf (f s)) (startOf (f (s + 1))) (endOf (f (s + 1)))
   beside s h = ordered (f s) (f (s + 1)) (spans s (omega arith) .onward) (spans (s + 1) h .onward) (next s h)
 
@@ -101,12 +102,18 @@ module _ (f : ℕ → ℕ) (m q x y : ℕ) (one : 1 ≤ q) (spans : (s : ℕ) �
 -- ---- lines abreast
 
 -- Of lines that all came in at t or above and start at t′ or below, two share nothing from t′ up to t.
-apart : {n t m : ℕ} {l : List ℕ} (a : List ℕ) → Onward n l → ((p : ℕ) → p < m → getD a p 0 < n) → ((p : ℕ) → p < m → t ≤ last (at l a p)) → ((p : ℕ) → p + 1 < m → Next (at l a p) (at l a (p + 1))) →
+apart : {n t m : ℕ} {l : List ℕ} (a : List ℕ) → Onward n l → ((p : ℕ) → p < m → getD a p 0 < n) → ((p : ℕ) → p < m → t ≤ last (at l a p)) →
+    ((p : ℕ) → p + 1 < m → Next (at l a p) (at l a (p + 1))) →
     (t′ : ℕ) → ((p : ℕ) → p < m → first (at l a p) ≤ t′) → {j k q x y : ℕ} → Below m (λ p. getD a p 0 ≡ j) → Below m (λ p. getD a p 0 ≡ k) → j ≢ k →
     q * t′ ≤ 65536 * y + x → 65536 * y + x ≤ q * t → Meets (getD l j 0) (getD l k 0) q x y → ⊥
 apart {n} {t} {m} {l} a o below come next t′ start {j} {k} {q} {x} {y} (p, u, e) (r, w, f) d low high c =
     split (λ s. at l a s) m q x y (c .one)
-    (λ s v. record { onward = o .onward (getD a s 0) (below s v); low = omega (arith, mul-le-mul-left q (start s v)); high = omega (arith, mul-le-mul-left q (come s v)) })
+    (λ s v. record {
+      onward =
+          o .onward (getD a s 0) (below s v);
+      low = omega (arith, mul-le-mul-left q (start s v));
+      high = omega (arith, mul-le-mul-left q (come s v));
+    })
     next p r u w (λ z. d (sym e ∙ ap (λ (s : ℕ). getD a s 0) z ∙ f)) (subst₂ (λ (v z : ℕ). Meets (getD l v 0) (getD l z 0) q x y) (sym e) (sym f) c)
 
 -- Down to a level at which none that it holds has ended before.
@@ -114,7 +121,8 @@ advance : {n i t m : ℕ} {l a : List ℕ} → Onward n l → Abreast n i t m l 
     (j k : ℕ) → i ≤ j → j < k → k < n → Clear t′ (getD l j 0) (getD l k 0)
 advance {n} {i} {t} {m} {l} {a} o h t′ d start j k g b v = record { clear = λ c. go c (decLt (65536 * c .y + c .x) (c .q * t′)) }
   where
-    go : (c : Clash (startOf (getD l j 0)) (endOf (getD l j 0)) (startOf (getD l k 0)) (endOf (getD l k 0))) → Dec (65536 * c .y + c .x < c .q * t′) → 65536 * c .y + c .x < c .q * t′
+    go : (c : Clash (startOf (getD l j 0)) (endOf (getD l j 0)) (startOf (getD l k 0)) (endOf (getD l k 0))) → Dec (65536 * c .y + c .x < c .q * t′) →
+        65536 * c .y + c .x < c .q * t′
     go c (yes z) = z
     go c (no z) =
         let old = h .clear (λ p u. omega (arith, start p u)) j k g b v .clear c in
@@ -171,7 +179,8 @@ module _ {n i i′ t t′ m m′ d p e : ℕ} {l a b : List ℕ} (o : Onward n l
           by (e + r) (e + (r + 1)) (ap (λ (z : ℕ). getD b z 0) (omega arith) ∙ changed .after r (omega arith))
           (ap (λ (z : ℕ). getD b z 0) (omega arith) ∙ changed .after (r + 1) (omega arith)) (omega arith) (omega arith)
 
-  pub abreast-on : t′ ≤ t → ((s : ℕ) → s + 1 ≡ p → p < m′ → Next (at l b s) (at l b (s + 1))) → (0 < d → p + 1 < m′ → Next (at l b p) (at l b (p + 1))) → Abreast n i′ t′ m′ l b
+  pub abreast-on : t′ ≤ t → ((s : ℕ) → s + 1 ≡ p → p < m′ → Next (at l b s) (at l b (s + 1))) → (0 < d → p + 1 < m′ → Next (at l b p) (at l b (p + 1))) →
+      Abreast n i′ t′ m′ l b
   abreast-on down left right = record {
     from = replaced-all (λ j. i′ ≤ j) (λ s u. omega (arith, h .from s u)) (λ z. omega arith);
     below = replaced-below;
@@ -190,7 +199,8 @@ module _ {n i i′ t t′ m m′ d p e : ℕ} {l a b : List ℕ} (o : Onward n l
       old-all : (j : ℕ) → i ≤ j → j < n → first (getD l j 0) < t′ → Below m′ (λ s. getD b s 0 ≡ j)
       old-all j u v w = let z = h .all j u v (omega arith) in go z (stays-or (z .0) (z .1))
         where
-          go : (z : Below m (λ s. getD a s 0 ≡ j)) → Below m′ (λ r. getD b r 0 ≡ getD a (z .0) 0) ⊎ (first (at l a (z .0)) ≡ t′) → Below m′ (λ s. getD b s 0 ≡ j)
+          go : (z : Below m (λ s. getD a s 0 ≡ j)) → Below m′ (λ r. getD b r 0 ≡ getD a (z .0) 0) ⊎ (first (at l a (z .0)) ≡ t′) →
+              Below m′ (λ s. getD b s 0 ≡ j)
           go z (inl y) = (y .0, y .1, y .2 ∙ z .2)
           go z (inr y) = absurd (omega (arith, y, ap (λ (r : ℕ). first (getD l r 0)) (z .2)))
 
@@ -211,13 +221,20 @@ module _ {n i i′ t t′ m m′ d p e : ℕ} {l a b : List ℕ} (o : Onward n l
           ends : last (getD l j 0) ≡ t′
           ends = ap (λ (r : ℕ). last (getD l r 0)) is ∙ in′ (omega arith)
 
-          go : (c : Clashes (getD l j 0) (getD l k 0)) → Dec (65536 * c .y + c .x < c .q * t′) → Dec (first (getD l k 0) < t′) → 65536 * c .y + c .x < c .q * t′
+          go : (c : Clashes (getD l j 0) (getD l k 0)) → Dec (65536 * c .y + c .x < c .q * t′) → Dec (first (getD l k 0) < t′) →
+              65536 * c .y + c .x < c .q * t′
           go c (yes y) s = y
           go c (no y) (yes s) =
               let x = meets-of c in
-              absurd (apart b o replaced-below come next t′ start (p, omega (arith, out .onward), changed .here (omega arith) ∙ sym is) (old-all k (omega arith) w s)
+              absurd (apart b o replaced-below come next t′ start (
+                p,
+                omega (arith, out .onward),
+                changed .here (omega arith) ∙
+                    sym is,
+              ) (old-all k (omega arith) w s)
               (λ f. omega arith) (omega arith) (subst (λ (r : ℕ). 65536 * c .y + c .x ≤ c .q * r) ends (on-levels (getD l j 0) (o .onward j (omega arith)) (x .on-X) .1)) x)
-          go c (no y) (no s) = absurd (numbers-apart 65536 (start-fits (getD l k 0)) (end-fits (getD l k 0)) (end-fits (getD l j 0)) (up (getD l k 0) (o .onward k w))
+          go c (no y) (no s) =
+              absurd (numbers-apart 65536 (start-fits (getD l k 0)) (end-fits (getD l k 0)) (end-fits (getD l j 0)) (up (getD l k 0) (o .onward k w))
               (up (getD l j 0) (o .onward j (omega arith))) (omega (arith, number-first (getD l k 0), number-last (getD l j 0), ends)) (clash-exchange c))
 
 -- For the code: line i comes in, and none does.
@@ -237,7 +254,8 @@ module _ {n i t level m p e : ℕ} {l a b : List ℕ} (o : Onward n l) (h : Abre
   out-below = replaced-below o h (omega arith, omega arith, g) (k, omega arith) out (λ z. absurd (omega arith)) unchanged
 
   pub abreast-out : level ≤ t → ((s : ℕ) → s + 1 ≡ p → p < m + p - e → Next (at l b s) (at l b (s + 1))) → Abreast n i level (m + p - e) l b
-  abreast-out down left = abreast-on o h (omega arith, omega arith, g) (k, omega arith) out (λ z. absurd (omega arith)) unchanged down left (λ z. absurd (omega arith))
+  abreast-out down left =
+      abreast-on o h (omega arith, omega arith, g) (k, omega arith) out (λ z. absurd (omega arith)) unchanged down left (λ z. absurd (omega arith))
 
 -- ---- before the first line, and after the last
 

@@ -1,6 +1,6 @@
-// Are lines surely without a clash? A sweep over all numbers, from the greatest down, has the lines abreast at a level from left to right and compares neighbours only.
-// "No" says nothing. Which level comes next, and where a line comes in, are guesses: a wrong one shows, since neighbours are then not side by side, or a line never
-// goes out. What is known of the lines abreast is `Abreast` (specs/inner/Abreast).
+// Are lines surely without a clash? A sweep over all numbers, from the greatest down, has the lines abreast at a level from left to right and
+// compares neighbours only. "No" says nothing. Which level comes next, and where a line comes in, are guesses: a wrong one shows, since neighbours
+// are then not side by side, or a line never goes out. What is known of the lines abreast is `Abreast` (specs/inner/Abreast).
 mod abreast;
 mod side;
 
@@ -112,8 +112,8 @@ fn ends_at(lines: &[u64], i: usize, level: u64) -> bool
 
 // ---- the sweep
 
-// Are the lines surely without a clash? A list to work in is lent. Of a good sheet, seen upright and sorted by ends, of one end first what goes left from it, each
-// guess is right (docs/GROUNDS.md; not proved).
+// Are the lines surely without a clash? A list to work in is lent. Of a good sheet, seen upright and sorted by ends, those with one end with the
+// line that goes left from it first, each guess is right (docs/GROUNDS.md; not proved).
 pub fn clear(lines: &[u64], abreast: &mut [u16]) -> bool
     requires { ⌜ Onward (length (now lines)) (now lines) ⌝ }
     requires { ⌜ (length (now lines) ≤ 65535) × (length (now lines) ≤ length (now abreast)) ⌝ }

@@ -12,7 +12,8 @@ use Rattle.neighbours.proofs.clear.Statement.{statement}
 use Rattle.neighbours.proofs.clear.Tie as tie
 
 abbrev Inv-loop : tie.InvT-loop
-Inv-loop lines abreast₀ i₀ m₀ t₀ soon₀ abreast i m t soon = (i + m ≤ length lines) × (length abreast ≡ length abreast₀) × Abreast (length lines) i t m lines abreast
+Inv-loop lines abreast₀ i₀ m₀ t₀ soon₀ abreast i m t soon =
+    (i + m ≤ length lines) × (length abreast ≡ length abreast₀) × Abreast (length lines) i t m lines abreast
 
 abbrev μ-loop : tie.MeasureT-loop
 μ-loop lines abreast₀ i₀ m₀ t₀ soon₀ abreast i m t soon = i + i + m
@@ -81,7 +82,9 @@ returns-2 : tie.Need-returns-2 Inv-loop μ-loop
 returns-2 c = λ z. absurd (subst T (sym z) tt)
 
 go-out-requires : tie.Need-go-out-requires Inv-loop μ-loop
-go-out-requires c κs = let s = c .before .before .before .before .before .before .before .before .before .before .before .before .before in let l = c .before .before .before .before .before .before .before .before .before .before .loop in (s .pre .0, (l .inv .2, (c .before .before .before .before .starting .ensures .1, (omega arith, omega arith, omega arith))))
+go-out-requires c κs = let s = c .before .before .before .before .before .before .before .before .before .before .before .before .before in let l =
+    c .before .before .before .before .before .before .before .before .before .before .loop in
+    (s .pre .0, (l .inv .2, (c .before .before .before .before .starting .ensures .1, (omega arith, omega arith, omega arith))))
 
 same-length-3 : tie.Need-same-length-3 Inv-loop μ-loop
 same-length-3 c = search needs
@@ -114,7 +117,11 @@ loop-less-2 : tie.Need-loop-less-2 Inv-loop μ-loop
 loop-less-2 c = search needs
 
 loop-again-2 : tie.Need-loop-again-2 Inv-loop μ-loop
-loop-again-2 c = (omega (arith, c .before .before .before .before .before .before .before .before .starting .ensures .1 .onward), omega arith, c .before .before .before .go-out .ensures (not-false _ (c .if4 .left)))
+loop-again-2 c = (
+  omega (arith, c .before .before .before .before .before .before .before .before .starting .ensures .1 .onward),
+  omega arith,
+  c .before .before .before .go-out .ensures (not-false _ (c .if4 .left)),
+)
 
 same-length-4 : tie.Need-same-length-4 Inv-loop μ-loop
 same-length-4 c = search needs

@@ -33,7 +33,12 @@ replace-requires : tie.Need-replace-requires
 replace-requires c κs = search needs
 
 beside-last-requires : tie.Need-beside-last-requires
-beside-last-requires c κs = let s = c .before .before .before .before .before .before .before .before .before in record { room = omega (arith, s .pre .1 .1 .0 .onward); below = in-below (s .pre .0) (s .pre .1 .0) (s .pre .1 .1 .0) (omega arith) (omega arith) (c .before .before .before .replace .ensures) }
+beside-last-requires c κs = let s = c .before .before .before .before .before .before .before .before .before in
+    record {
+      room = omega (arith, s .pre .1 .1 .0 .onward);
+      below =
+          in-below (s .pre .0) (s .pre .1 .0) (s .pre .1 .1 .0) (omega arith) (omega arith) (c .before .before .before .replace .ensures);
+    }
 
 same-length : tie.Need-same-length
 same-length c = search needs
@@ -45,13 +50,19 @@ add-beside-last : tie.Need-add-beside-last
 add-beside-last c = search needs
 
 beside-last-requires-2 : tie.Need-beside-last-requires-2
-beside-last-requires-2 c κs = let s = c .before .before .before .before .before .before .before .before .before .before .before .before in record { room = omega (arith, s .pre .1 .1 .0 .onward); below = in-below (s .pre .0) (s .pre .1 .0) (s .pre .1 .1 .0) (omega arith) (omega arith) (c .before .before .before .before .before .before .replace .ensures) }
+beside-last-requires-2 c κs = let s = c .before .before .before .before .before .before .before .before .before .before .before .before in
+    record {
+      room = omega (arith, s .pre .1 .1 .0 .onward);
+      below =
+          in-below (s .pre .0) (s .pre .1 .0) (s .pre .1 .1 .0) (omega arith) (omega arith) (c .before .before .before .before .before .before .replace .ensures);
+    }
 
 same-length-2 : tie.Need-same-length-2
 same-length-2 c = search needs
 
 returns-3 : tie.Need-returns-3
-returns-3 c = λ z. let s = c .before .before .before .before .before .before .before .before .before .before .before .before .before in abreast-in (s .pre .0) (s .pre .1 .0) (s .pre .1 .1 .0) (omega arith) (omega arith) (c .before .before .before .before .before .before .before .replace .ensures) (omega arith)
+returns-3 c = λ z. let s = c .before .before .before .before .before .before .before .before .before .before .before .before .before in
+    abreast-in (s .pre .0) (s .pre .1 .0) (s .pre .1 .1 .0) (omega arith) (omega arith) (c .before .before .before .before .before .before .before .replace .ensures) (omega arith)
     (c .before .before .before .beside-last .ensures (not-false _ (c .before .before .if2 .left))) (c .beside-last2 .ensures z)
 
 pub come-in-spec : {M : Type 1} → statement M

@@ -20,13 +20,19 @@ sub-beside-last : tie.Need-sub-beside-last
 sub-beside-last c = search needs
 
 beside-last-requires : tie.Need-beside-last-requires
-beside-last-requires c κs = let s = c .before .before .before .before .before .before .before .before in record { room = omega (arith, s .pre .1 .1 .0 .onward); below = out-below (s .pre .0) (s .pre .1 .0) (s .pre .1 .1 .0) (omega arith) (omega arith) (c .before .before .before .clear-out .ensures) }
+beside-last-requires c κs = let s = c .before .before .before .before .before .before .before .before in
+    record {
+      room = omega (arith, s .pre .1 .1 .0 .onward);
+      below =
+          out-below (s .pre .0) (s .pre .1 .0) (s .pre .1 .1 .0) (omega arith) (omega arith) (c .before .before .before .clear-out .ensures);
+    }
 
 same-length : tie.Need-same-length
 same-length c = search needs
 
 returns-2 : tie.Need-returns-2
-returns-2 c = λ z. let s = c .before .before .before .before .before .before .before .before .before in abreast-out (s .pre .0) (s .pre .1 .0) (s .pre .1 .1 .0) (omega arith) (omega arith) (c .before .before .before .before .clear-out .ensures) (omega arith) (c .beside-last .ensures z)
+returns-2 c = λ z. let s = c .before .before .before .before .before .before .before .before .before in
+    abreast-out (s .pre .0) (s .pre .1 .0) (s .pre .1 .1 .0) (omega arith) (omega arith) (c .before .before .before .before .clear-out .ensures) (omega arith) (c .beside-last .ensures z)
 
 pub go-out-spec : {M : Type 1} → statement M
 go-out-spec =

@@ -10,7 +10,8 @@ use Rattle.neighbours.proofs.abreast.clear_out.Statement.{statement}
 use Rattle.neighbours.proofs.abreast.clear_out.Tie as tie
 
 abbrev Inv-loop : tie.InvT-loop
-Inv-loop abreast₀ m p e gone₀ left₀ abreast gone left = (p ≤ gone) × (gone ≤ e) × (left + gone ≡ m + p) × (length abreast ≡ length abreast₀) × Replaced 0 m p gone 0 abreast₀ abreast
+Inv-loop abreast₀ m p e gone₀ left₀ abreast gone left =
+    (p ≤ gone) × (gone ≤ e) × (left + gone ≡ m + p) × (length abreast ≡ length abreast₀) × Replaced 0 m p gone 0 abreast₀ abreast
 
 abbrev μ-loop : tie.MeasureT-loop
 μ-loop abreast₀ m p e gone₀ left₀ abreast gone left = e - gone
@@ -31,7 +32,14 @@ loop-less : tie.Need-loop-less Inv-loop μ-loop
 loop-less c = search needs
 
 loop-again : tie.Need-loop-again Inv-loop μ-loop
-loop-again c = (omega arith, omega arith, omega arith, omega arith, let l = c .before .before .before .before .before .loop in more-out (l .inv .2) (l .inv .0) (l .inv .4) (c .before .before .take .ensures))
+loop-again c = (
+  omega arith,
+  omega arith,
+  omega arith,
+  omega arith,
+  let l = c .before .before .before .before .before .loop in
+      more-out (l .inv .2) (l .inv .0) (l .inv .4) (c .before .before .take .ensures),
+)
 
 same-length : tie.Need-same-length Inv-loop μ-loop
 same-length c = search needs

@@ -24,7 +24,8 @@ add-middle : tie.Need-add-middle Inv-loop μ-loop
 add-middle c = search needs
 
 line-at-requires : tie.Need-line-at-requires Inv-loop μ-loop
-line-at-requires c κs = let s = c .before .before .before .before .before in let l = c .before .loop in (omega (arith, s .pre .room), s .pre .below (l .low + (l .high - l .low) / 2) (omega arith))
+line-at-requires c κs = let s = c .before .before .before .before .before in let l = c .before .loop in
+    (omega (arith, s .pre .room), s .pre .below (l .low + (l .high - l .low) / 2) (omega arith))
 
 start-requires-2 : tie.Need-start-requires-2 Inv-loop μ-loop
 start-requires-2 c κs = search needs

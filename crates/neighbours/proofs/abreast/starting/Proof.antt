@@ -19,7 +19,8 @@ loop-holds : tie.Need-loop-holds Inv-loop μ-loop
 loop-holds c = (omega arith, starting-none _ _ _ _)
 
 line-at-requires : tie.Need-line-at-requires Inv-loop μ-loop
-line-at-requires c κs = let s = c .before .before .before .before in let l = c .before .loop in (omega (arith, s .pre .0 .room), s .pre .0 .below (l .e) (omega arith))
+line-at-requires c κs =
+    let s = c .before .before .before .before in let l = c .before .loop in (omega (arith, s .pre .0 .room), s .pre .0 .below (l .e) (omega arith))
 
 returns : tie.Need-returns Inv-loop μ-loop
 returns c = c .before .before .before .loop .inv

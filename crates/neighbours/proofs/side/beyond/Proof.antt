@@ -30,13 +30,15 @@ ends-requires-2 : tie.Need-ends-requires-2
 ends-requires-2 c κs = search needs
 
 returns-4 : tie.Need-returns-4
-returns-4 c = λ z. inr (inr (c .before .before .before .right-of2 .ensures (not-false _ (c .before .before .if3 .left)), c .before .ends2 .ensures (c .if4 .taken)))
+returns-4 c =
+    λ z. inr (inr (c .before .before .before .right-of2 .ensures (not-false _ (c .before .before .if3 .left)), c .before .ends2 .ensures (c .if4 .taken)))
 
 right-of-requires-3 : tie.Need-right-of-requires-3
 right-of-requires-3 c κs = search needs
 
 returns-5 : tie.Need-returns-5
-returns-5 c = λ z. inr (inl (inr (c .before .before .before .before .right-of2 .ensures (not-false _ (c .before .before .before .if3 .left))), c .right-of3 .ensures z))
+returns-5 c =
+    λ z. inr (inl (inr (c .before .before .before .before .right-of2 .ensures (not-false _ (c .before .before .before .if3 .left))), c .right-of3 .ensures z))
 
 pub beyond-spec : {M : Type 1} → statement M
 beyond-spec =
