@@ -119,7 +119,7 @@ pub struct View {
     pub far: bool,
 }
 
-// By columns, if many lines, more than seven, lie abreast by rows, and fewer by columns; far, if more than 32 do by both.
+// By columns, if many lines, more than seven, lie abreast by rows, and fewer by columns; far, if more than 12 do by both.
 pub fn view_of(lines: &[u64]) -> View
     requires { ⌜ length (now lines) ≤ 4097 ⌝ }
 {
@@ -133,7 +133,7 @@ pub fn view_of(lines: &[u64]) -> View
     let columns = abreast(reach_along(lines, true));
     View {
         across: columns < rows,
-        far: 32 < columns && 32 < rows,
+        far: 12 < columns && 12 < rows,
     }
 }
 

@@ -69,7 +69,7 @@ struct Search {
 const ALL: usize = 0x100_2001;
 
 // The worst meeting of two lines, of lines sorted by their ends. Stops with the line that has one than which none is worse; and is given up, not
-// whole, where it has compared more than `budget` and, for each line, 24.
+// whole, where it has compared more than `budget` and, for each line so far, 10.
 fn worst_of(lines: &[u64], budget: usize) -> Search
     requires { ⌜ (length (now lines) ≤ 4097) × (budget ≤ 16785409) ⌝ }
     requires { ⌜ Onward (length (now lines)) (now lines) ⌝ }
@@ -87,7 +87,7 @@ fn worst_of(lines: &[u64], budget: usize) -> Search
             return Search { worst, whole: true };
         }
         let compared = i - found.from;
-        left += 24;
+        left += 10;
         if left < compared {
             return Search {
                 worst,
@@ -114,7 +114,7 @@ fn search_first(lines: &mut [u64], scratch: &mut [u64], view: View) -> Search
         };
     }
     settle(lines, scratch, view.across);
-    let found = worst_of(lines, 4 * lines.len());
+    let found = worst_of(lines, 2 * lines.len());
     if found.whole {
         return found;
     }

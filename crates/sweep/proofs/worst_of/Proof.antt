@@ -11,7 +11,7 @@ use Rattle.sweep.proofs.worst_of.Statement.{statement}
 use Rattle.sweep.proofs.worst_of.Tie as tie
 
 abbrev Inv-loop : tie.InvT-loop
-Inv-loop lines budget worst₀ left₀ i₀ worst left i = (i ≤ length lines) × (left ≤ budget + i * 24) × (budget ≤ left + i * 4097) × Worst i lines worst
+Inv-loop lines budget worst₀ left₀ i₀ worst left i = (i ≤ length lines) × (left ≤ budget + i * 10) × (budget ≤ left + i * 4097) × Worst i lines worst
 
 abbrev μ-loop : tie.MeasureT-loop
 μ-loop lines budget worst₀ left₀ i₀ worst left i = length lines - i
