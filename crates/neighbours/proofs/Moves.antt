@@ -129,5 +129,5 @@ cross-at e f g h = h ∙ rw (e, f, g) refl
 pub beyond-at : {P Q R S A B C D : Point} → P ≡ A → Q ≡ B → R ≡ C → S ≡ D → Beyond P Q R S → Beyond A B C D
 beyond-at {P} {Q} {R} {S} {A} {B} p q r s h = subst₂ (λ (X Y : Point). Beyond A B X Y) r s (subst₂ (λ (X Y : Point). Beyond X Y R S) p q h)
 
-pub next-at : (l a : List ℕ) (s : ℕ) {x y p : ℕ} → x ≡ at l a (p - 1) → y ≡ at l a p → s + 1 ≡ p → Next x y → Next (at l a s) (at l a (s + 1))
-next-at l a s {x} {y} {p} e f h n = subst₂ Next (e ∙ ap (λ (z : ℕ). at l a z) (omega arith)) (f ∙ ap (λ (z : ℕ). at l a z) (sym h)) n
+pub next-at : (l a : List ℕ) (s : ℕ) {x y p : ℕ} → x ≡ at l a (p - 1) → y ≡ at l a p → s + 1 ≡ p → Next y x → Next (at l a (s + 1)) (at l a s)
+next-at l a s {x} {y} {p} e f h n = subst₂ Next (f ∙ ap (λ (z : ℕ). at l a z) (sym h)) (e ∙ ap (λ (z : ℕ). at l a z) (omega arith)) n

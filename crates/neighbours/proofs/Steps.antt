@@ -1,4 +1,4 @@
--- The sweep: what it holds stays so as a line comes in or goes out, and at the end no two lines clash. Rests on Chain.
+-- The sweep: what is known of the lines abreast stays so as lines go out and one comes in, and at the end no two lines clash. Rests on Chain.
 use mathlib.Core.Path.{_≡_, refl, ap, sym, _∙_, subst, subst₂}
 use mathlib.Core.Logic.{_⊎_, _≢_, inl, inr, ⊎-elim}
 use mathlib.Core.List.{List}
@@ -101,22 +101,30 @@ module _ (f : ℕ → ℕ) (m q x y : ℕ) (one : 1 ≤ q) (spans : (s : ℕ) �
 
 -- ---- lines abreast
 
--- Of lines that all came in at t or above and start at t′ or below, two share nothing from t′ up to t.
+-- Of lines, from right to left, that all came in at t or above and start at t′ or below, two share nothing from t′ up to t.
 apart : {n t m : ℕ} {l : List ℕ} (a : List ℕ) → Onward n l → ((p : ℕ) → p < m → getD a p 0 < n) → ((p : ℕ) → p < m → t ≤ last (at l a p)) →
-    ((p : ℕ) → p + 1 < m → Next (at l a p) (at l a (p + 1))) →
+    ((p : ℕ) → p + 1 < m → Next (at l a (p + 1)) (at l a p)) →
     (t′ : ℕ) → ((p : ℕ) → p < m → first (at l a p) ≤ t′) → {j k q x y : ℕ} → Below m (λ p. getD a p 0 ≡ j) → Below m (λ p. getD a p 0 ≡ k) → j ≢ k →
     q * t′ ≤ 65536 * y + x → 65536 * y + x ≤ q * t → Meets (getD l j 0) (getD l k 0) q x y → ⊥
 apart {n} {t} {m} {l} a o below come next t′ start {j} {k} {q} {x} {y} (p, u, e) (r, w, f) d low high c =
-    split (λ s. at l a s) m q x y (c .one)
-    (λ s v. record {
-      onward =
-          o .onward (getD a s 0) (below s v);
+    split (λ s. at l a (m - 1 - s)) m q x y (c .one) (λ s v. spans (m - 1 - s) (omega arith)) beside-back (m - 1 - p) (m - 1 - r) (omega arith) (omega arith)
+    (λ z. d (sym e ∙ ap (λ (s : ℕ). getD a s 0) (omega arith) ∙ f))
+    (subst₂ (λ (v z : ℕ). Meets (getD l v 0) (getD l z 0) q x y) (sym (back p u ∙ e)) (sym (back r w ∙ f)) c)
+  where
+    spans : (s : ℕ) → s < m → Spans (at l a s) q (65536 * y + x)
+    spans s v = record {
+      onward = o .onward (getD a s 0) (below s v);
       low = omega (arith, mul-le-mul-left q (start s v));
       high = omega (arith, mul-le-mul-left q (come s v));
-    })
-    next p r u w (λ z. d (sym e ∙ ap (λ (s : ℕ). getD a s 0) z ∙ f)) (subst₂ (λ (v z : ℕ). Meets (getD l v 0) (getD l z 0) q x y) (sym e) (sym f) c)
+    }
 
--- Down to a level at which none that it holds has ended before.
+    back : (s : ℕ) → s < m → getD a (m - 1 - (m - 1 - s)) 0 ≡ getD a s 0
+    back s v = ap (λ (z : ℕ). getD a z 0) (omega arith)
+
+    beside-back : (s : ℕ) → s + 1 < m → Next (at l a (m - 1 - s)) (at l a (m - 1 - (s + 1)))
+    beside-back s v = subst₂ (λ (u v : ℕ). Next (at l a u) (at l a v)) (omega arith) (omega arith) (next (m - 1 - (s + 1)) (omega arith))
+
+-- Down to a level above which none of them starts.
 advance : {n i t m : ℕ} {l a : List ℕ} → Onward n l → Abreast n i t m l a → (t′ : ℕ) → t′ ≤ t → ((p : ℕ) → p < m → first (at l a p) ≤ t′) →
     (j k : ℕ) → i ≤ j → j < k → k < n → Clear t′ (getD l j 0) (getD l k 0)
 advance {n} {i} {t} {m} {l} {a} o h t′ d start j k g b v = record { clear = λ c. go c (decLt (65536 * c .y + c .x) (c .q * t′)) }
@@ -163,23 +171,23 @@ module _ {n i i′ t t′ m m′ d p e : ℕ} {l a b : List ℕ} (o : Onward n l
       go (no u) (no v) = inl (stays s k (inr (omega arith)))
       go (no u) (yes v) = inr (out .start s (omega arith) v)
 
-  replaced-next : ((s : ℕ) → s + 1 ≡ p → p < m′ → Next (at l b s) (at l b (s + 1))) → (0 < d → p + 1 < m′ → Next (at l b p) (at l b (p + 1))) →
-      (s : ℕ) → s + 1 < m′ → Next (at l b s) (at l b (s + 1))
+  replaced-next : ((s : ℕ) → s + 1 ≡ p → p < m′ → Next (at l b (s + 1)) (at l b s)) → (0 < d → p + 1 < m′ → Next (at l b (p + 1)) (at l b p)) →
+      (s : ℕ) → s + 1 < m′ → Next (at l b (s + 1)) (at l b s)
   replaced-next left right s k = go (decLt (s + 1) p) (ℕ-discrete (s + 1) p) (decLt s (p + d))
     where
-      by : (u v : ℕ) → getD b s 0 ≡ getD a u 0 → getD b (s + 1) 0 ≡ getD a v 0 → v ≡ u + 1 → v < m → Next (at l b s) (at l b (s + 1))
-      by u v c z f w = subst₂ (λ (x y : ℕ). Next (getD l x 0) (getD l y 0)) (sym c) (sym (z ∙ ap (λ (r : ℕ). getD a r 0) f)) (h .next u (omega arith))
+      by : (u v : ℕ) → getD b s 0 ≡ getD a u 0 → getD b (s + 1) 0 ≡ getD a v 0 → v ≡ u + 1 → v < m → Next (at l b (s + 1)) (at l b s)
+      by u v c z f w = subst₂ (λ (x y : ℕ). Next (getD l x 0) (getD l y 0)) (sym (z ∙ ap (λ (r : ℕ). getD a r 0) f)) (sym c) (h .next u (omega arith))
 
-      go : Dec (s + 1 < p) → Dec (s + 1 ≡ p) → Dec (s < p + d) → Next (at l b s) (at l b (s + 1))
+      go : Dec (s + 1 < p) → Dec (s + 1 ≡ p) → Dec (s < p + d) → Next (at l b (s + 1)) (at l b s)
       go (yes u) v w = by s (s + 1) (changed .before s (omega arith)) (changed .before (s + 1) u) refl (omega (arith, out .onward))
       go (no u) (yes v) w = left s v (omega arith)
-      go (no u) (no v) (yes w) = subst (λ (z : ℕ). Next (at l b z) (at l b (z + 1))) (omega arith) (right (omega arith) (omega arith))
+      go (no u) (no v) (yes w) = subst (λ (z : ℕ). Next (at l b (z + 1)) (at l b z)) (omega arith) (right (omega arith) (omega arith))
       go (no u) (no v) (no w) =
           let r = s - (p + d) in
           by (e + r) (e + (r + 1)) (ap (λ (z : ℕ). getD b z 0) (omega arith) ∙ changed .after r (omega arith))
           (ap (λ (z : ℕ). getD b z 0) (omega arith) ∙ changed .after (r + 1) (omega arith)) (omega arith) (omega arith)
 
-  pub abreast-on : t′ ≤ t → ((s : ℕ) → s + 1 ≡ p → p < m′ → Next (at l b s) (at l b (s + 1))) → (0 < d → p + 1 < m′ → Next (at l b p) (at l b (p + 1))) →
+  pub abreast-on : t′ ≤ t → ((s : ℕ) → s + 1 ≡ p → p < m′ → Next (at l b (s + 1)) (at l b s)) → (0 < d → p + 1 < m′ → Next (at l b (p + 1)) (at l b p)) →
       Abreast n i′ t′ m′ l b
   abreast-on down left right = record {
     from = replaced-all (λ j. i′ ≤ j) (λ s u. omega (arith, h .from s u)) (λ z. omega arith);
@@ -193,7 +201,7 @@ module _ {n i i′ t t′ m m′ d p e : ℕ} {l a b : List ℕ} (o : Onward n l
       come : (s : ℕ) → s < m′ → t′ ≤ last (at l b s)
       come = replaced-all (λ j. t′ ≤ last (getD l j 0)) (λ s u. omega (arith, h .come s u)) (λ z. omega (arith, in′ z))
 
-      next : (s : ℕ) → s + 1 < m′ → Next (at l b s) (at l b (s + 1))
+      next : (s : ℕ) → s + 1 < m′ → Next (at l b (s + 1)) (at l b s)
       next = replaced-next left right
 
       old-all : (j : ℕ) → i ≤ j → j < n → first (getD l j 0) < t′ → Below m′ (λ s. getD b s 0 ≡ j)
@@ -242,8 +250,8 @@ module _ {n i t m p e : ℕ} {l a b : List ℕ} (o : Onward n l) (h : Abreast n 
   pub in-below : (s : ℕ) → s < m + p + 1 - e → getD b s 0 < n
   in-below = replaced-below o h (omega arith, refl, omega arith) (k, omega arith) out (λ z. refl) changed
 
-  pub abreast-in : last (getD l i 0) ≤ t → ((s : ℕ) → s + 1 ≡ p → p < m + p + 1 - e → Next (at l b s) (at l b (s + 1))) →
-      ((s : ℕ) → s + 1 ≡ p + 1 → p + 1 < m + p + 1 - e → Next (at l b s) (at l b (s + 1))) → Abreast n i (last (getD l i 0)) (m + p + 1 - e) l b
+  pub abreast-in : last (getD l i 0) ≤ t → ((s : ℕ) → s + 1 ≡ p → p < m + p + 1 - e → Next (at l b (s + 1)) (at l b s)) →
+      ((s : ℕ) → s + 1 ≡ p + 1 → p + 1 < m + p + 1 - e → Next (at l b (s + 1)) (at l b s)) → Abreast n i (last (getD l i 0)) (m + p + 1 - e) l b
   abreast-in down left right = abreast-on o h (omega arith, refl, omega arith) (k, omega arith) out (λ z. refl) changed down left (λ z. right p refl)
 
 module _ {n i t level m p e : ℕ} {l a b : List ℕ} (o : Onward n l) (h : Abreast n i t m l a) (out : Starting p e level l a) (k : e ≤ m) (g : i ≤ n) (changed : Replaced 0 m p e 0 a b) where
@@ -253,7 +261,7 @@ module _ {n i t level m p e : ℕ} {l a b : List ℕ} (o : Onward n l) (h : Abre
   pub out-below : (s : ℕ) → s < m + p - e → getD b s 0 < n
   out-below = replaced-below o h (omega arith, omega arith, g) (k, omega arith) out (λ z. absurd (omega arith)) unchanged
 
-  pub abreast-out : level ≤ t → ((s : ℕ) → s + 1 ≡ p → p < m + p - e → Next (at l b s) (at l b (s + 1))) → Abreast n i level (m + p - e) l b
+  pub abreast-out : level ≤ t → ((s : ℕ) → s + 1 ≡ p → p < m + p - e → Next (at l b (s + 1)) (at l b s)) → Abreast n i level (m + p - e) l b
   abreast-out down left =
       abreast-on o h (omega arith, omega arith, g) (k, omega arith) out (λ z. absurd (omega arith)) unchanged down left (λ z. absurd (omega arith))
 

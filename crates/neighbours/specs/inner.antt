@@ -1,3 +1,3 @@
--- Two lines side by side (Side), and the lines that a sweep holds at a level (Abreast).
+-- Two lines side by side (Side), and the lines abreast at a level of a sweep (Abreast).
 pub mod Side
 pub mod Abreast

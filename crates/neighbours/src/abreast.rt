@@ -1,4 +1,4 @@
-// The list of the places of the lines abreast, from left to right.
+// The list of the places of the lines abreast, from right to left.
 use line::HALF;
 use line::end;
 use line::start;
@@ -73,18 +73,25 @@ pub fn replace(abreast: &mut [u16], m: usize, p: usize, e: usize, k: u16)
 
 // ---- where: any place would do
 
-// How many of the lines abreast are to the left of the point at a level.
+// Is line k to the right of the point at a level, or ends there, where lines come in from right to left?
+fn right_of_point(k: u64, level: u64) -> bool {
+    let d = cross(start(k), end(k), start(level));
+    if d == 0 {
+        return k % HALF != level;
+    }
+    0 < d
+}
+
+// How many of the lines abreast are so.
 pub fn place(lines: &[u64], abreast: &[u16], m: usize, level: u64) -> usize
     requires { ⌜ Places (length (now lines)) m (now abreast) ⌝ }
     ensures { λ p. ⌜ p ≤ m ⌝ }
 {
-    let point = start(level);
     let mut low = 0;
     let mut high = m;
     while low < high {
         let middle = low + (high - low) / 2;
-        let k = line_at(lines, abreast, middle);
-        if cross(start(k), end(k), point) < 0 {
+        if right_of_point(line_at(lines, abreast, middle), level) {
             low = middle + 1;
         } else {
             high = middle;

@@ -1,4 +1,4 @@
-// Are lines surely without a clash? A sweep over all numbers, from the greatest down, has the lines abreast at a level from left to right and
+// Are lines surely without a clash? A sweep over all numbers, from the greatest down, has the lines abreast at a level from right to left and
 // compares neighbours only. "No" says nothing. Which level comes next, and where a line comes in, are guesses: a wrong one shows, since neighbours
 // are then not side by side, or a line never goes out. What is known of the lines abreast is `Abreast` (specs/inner/Abreast).
 mod abreast;
@@ -23,7 +23,7 @@ ghost use Rattle.neighbours.specs.inner.Abreast.{NoClash, Places, at, St
 fn beside_last(lines: &[u64], abreast: &[u16], m: usize, p: usize) -> bool
     requires { ⌜ Places (length (now lines)) m (now abreast) ⌝ }
     ensures { λ z. ⌜ (z ≡ true → (s : ℕ) → s + 1 ≡ p → p < m
-        → Next (at (now (lines .entry)) (now (abreast .entry)) s) (at (now (lines .entry)) (now (abreast .entry)) (s + 1))) ⌝ }
+        → Next (at (now (lines .entry)) (now (abreast .entry)) (s + 1)) (at (now (lines .entry)) (now (abreast .entry)) s)) ⌝ }
 {
     if p == 0 {
         return true;
@@ -31,7 +31,8 @@ fn beside_last(lines: &[u64], abreast: &[u16], m: usize, p: usize) -> bool
     if m <= p {
         return true;
     }
-    beside(line_at(lines, abreast, p - 1), line_at(lines, abreast, p))
+    let right = line_at(lines, abreast, p - 1);
+    beside(line_at(lines, abreast, p), right)
 }
 
 // Line i comes in at its end, in the place of those from p to before e, which go out.

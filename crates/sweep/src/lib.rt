@@ -65,7 +65,7 @@ struct Search {
     whole: bool,
 }
 
-// As many comparisons as 4,097 lines can need.
+// More comparisons than 4,097 lines can need.
 const ALL: usize = 0x100_2001;
 
 // The worst meeting of two lines, of lines sorted by their ends. Stops with the line that has one than which none is worse; and is given up, not
@@ -100,8 +100,8 @@ fn worst_of(lines: &[u64], budget: usize) -> Search
     Search { worst, whole: true }
 }
 
-// The worst meeting of two lines, by a search that is not begun where lines lie far abreast, and given up where it takes long. Then they are seen
-// upright again.
+// The worst meeting of two lines, by a search that is not begun where lines lie far abreast, and given up where it takes long. If it is given up,
+// they are seen upright again.
 fn search_first(lines: &mut [u64], scratch: &mut [u64], view: View) -> Search
     requires { ⌜ (length (now lines) ≤ 4097) × (length (now lines) ≤ length (now scratch)) ⌝ }
     ensures worst { λ r. ⌜ (r .whole ≡ true → Worst (length (now (lines .entry))) (now (lines .entry)) (r .worst)) ⌝ }

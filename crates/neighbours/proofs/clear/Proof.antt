@@ -1,4 +1,4 @@
--- `clear`: the sweep holds what `Abreast` says, from before the first line to after the last. Rests on Steps.
+-- `clear`: what `Abreast` says is so from before the first line to after the last. Rests on Steps.
 use borrow.Author.Needs.{needs}
 use Rattle.neighbours.proofs.Steps.{abreast-none, abreast-over}
 use Rattle.neighbours.specs.inner.Abreast.{Starting, Abreast}

@@ -1,4 +1,4 @@
--- The lines that a sweep holds at a level, from left to right. It goes from the greatest number down: a line comes in at its end and goes out at its start.
+-- The lines abreast at a level of a sweep, from right to left. It goes from the greatest number down: a line comes in at its end and goes out at its start.
 use mathlib.Core.Path.{_≡_}
 use mathlib.Core.List.{List}
 use Prim.Native.Nat.{ℕ, _+_, _*_, _≤_, _<_}
@@ -34,13 +34,13 @@ pub record Starting (p e t : ℕ) (l a : List ℕ) : Type 0 where
 pub record Clear (t x y : ℕ) : Type 0 where
   pub clear : (c : Clashes x y) → 65536 * c .y + c .x < c .q * t
 
--- Of n lines those from i on came in, each at the level t or above; a holds the places of m of them, each beside the next, and of all that start below t.
--- If none that it holds starts above t, no two that came in clash at t or above.
+-- Of n lines those from i on came in, each at the level t or above; a has the places of m of them, each to the right of the next, and of all that start below t.
+-- If none of these starts above t, no two that came in clash at t or above.
 pub record Abreast (n i t m : ℕ) (l a : List ℕ) : Type 0 where
   pub from : (p : ℕ) → p < m → i ≤ getD a p 0
   pub below : (p : ℕ) → p < m → getD a p 0 < n
   pub come : (p : ℕ) → p < m → t ≤ last (at l a p)
-  pub next : (p : ℕ) → p + 1 < m → Next (at l a p) (at l a (p + 1))
+  pub next : (p : ℕ) → p + 1 < m → Next (at l a (p + 1)) (at l a p)
   pub all : (j : ℕ) → i ≤ j → j < n → first (getD l j 0) < t → Below m (λ p. getD a p 0 ≡ j)
   pub clear : ((p : ℕ) → p < m → first (at l a p) ≤ t) → (j k : ℕ) → i ≤ j → j < k → k < n → Clear t (getD l j 0) (getD l k 0)
 

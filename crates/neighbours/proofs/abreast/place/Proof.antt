@@ -6,13 +6,10 @@ use Rattle.neighbours.proofs.abreast.place.Statement.{statement}
 use Rattle.neighbours.proofs.abreast.place.Tie as tie
 
 abbrev Inv-loop : tie.InvT-loop
-Inv-loop lines abreast m level point low₀ high₀ low high = (low ≤ high) × (high ≤ m)
+Inv-loop lines abreast m level low₀ high₀ low high = (low ≤ high) × (high ≤ m)
 
 abbrev μ-loop : tie.MeasureT-loop
-μ-loop lines abreast m level point low₀ high₀ low high = high - low
-
-start-requires : tie.Need-start-requires Inv-loop μ-loop
-start-requires c κs = search needs
+μ-loop lines abreast m level low₀ high₀ low high = high - low
 
 loop-holds : tie.Need-loop-holds Inv-loop μ-loop
 loop-holds c = search needs
@@ -24,17 +21,10 @@ add-middle : tie.Need-add-middle Inv-loop μ-loop
 add-middle c = search needs
 
 line-at-requires : tie.Need-line-at-requires Inv-loop μ-loop
-line-at-requires c κs = let s = c .before .before .before .before .before in let l = c .before .loop in
-    (omega (arith, s .pre .room), s .pre .below (l .low + (l .high - l .low) / 2) (omega arith))
+line-at-requires c κs = let s = c .before .before .before .before in let l = c .before .loop in (omega (arith, s .pre .room), s .pre .below (l .low + (l .high - l .low) / 2) (omega arith))
 
-start-requires-2 : tie.Need-start-requires-2 Inv-loop μ-loop
-start-requires-2 c κs = search needs
-
-end-requires : tie.Need-end-requires Inv-loop μ-loop
-end-requires c κs = search needs
-
-cross-requires : tie.Need-cross-requires Inv-loop μ-loop
-cross-requires c κs = search needs
+right-of-point-requires : tie.Need-right-of-point-requires Inv-loop μ-loop
+right-of-point-requires c κs = search needs
 
 add-low : tie.Need-add-low Inv-loop μ-loop
 add-low c = search needs
@@ -60,14 +50,11 @@ place-spec =
     (tie.spec
     Inv-loop
     μ-loop
-    start-requires
     loop-holds
     sub-middle
     add-middle
     line-at-requires
-    start-requires-2
-    end-requires
-    cross-requires
+    right-of-point-requires
     add-low
     loop-less
     loop-again
