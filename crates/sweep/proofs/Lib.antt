@@ -1,3 +1,3 @@
 -- The laws of meetings of lines as numbers. None is assumed.
 pub mod Grades
-pub mod Arranging
+pub mod Seeing

@@ -1,3 +1,2 @@
--- The worst meeting of two lines as numbers, along either axis.
+-- The worst meeting of two lines as numbers.
 pub mod Meetings
-pub mod Arranged

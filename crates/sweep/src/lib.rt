@@ -1,13 +1,12 @@
 // The worst meeting of two lines of a list: lines sorted by their ends, and each compared with those before it that end after it starts. Where that takes long,
 // a sweep that compares neighbours only (`neighbours`) is asked first whether there is anything to be found.
-mod axis;
 mod meeting;
 
-use crate::axis::View;
-use crate::axis::settle;
-use crate::axis::view_of;
 use crate::meeting::grade;
 use crate::meeting::worse_with;
+use axis::View;
+use axis::settle;
+use axis::view_of;
 use line::HALF;
 use line::end;
 use line::start;
@@ -24,8 +23,7 @@ ghost use lib.ListN.{length, getD};
 ghost use Rattle.sort.specs.inner.Order.{Pairs, Ascending};
 ghost use Rattle.line.specs.inner.Line.{last, Onward};
 ghost use Rattle.segment.specs.declared.meeting.Meeting.the-variants.{Separate};
-ghost use Rattle.sweep.specs.inner.Meetings.{WorstFrom, Worst};
-ghost use Rattle.sweep.specs.inner.Arranged.{Seen};
+ghost use Rattle.sweep.specs.inner.Meetings.{WorstFrom, Worst, Seen};
 
 // The worst meeting found, and the first line that was compared.
 struct Found {

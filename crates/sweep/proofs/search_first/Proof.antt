@@ -1,5 +1,5 @@
--- `search_first`: one search, or none; seen across twice, lines are as they were. Rests on Arranging.
-use Rattle.sweep.proofs.Arranging.{settled-onward, settled-ascends, seen-worst, seen-none, seen-then}
+-- `search_first`: one search, or none; seen across twice, lines are as they were. Rests on Seeing.
+use Rattle.sweep.proofs.Seeing.{settled-seen, settled-onward, settled-ascends, seen-worst, seen-none, seen-then}
 use lib.Dec.{T}
 use mathlib.Core.Path.{sym, subst}
 use native.Mathlib.Omega.{arith}
@@ -26,7 +26,10 @@ same-length-2 : tie.Need-same-length-2
 same-length-2 c = search needs
 
 returns-2 : tie.Need-returns-2
-returns-2 c = let s = c .before .before .before .before .before .before .before .settle in (λ z. seen-worst (s .kept .0) (s .ensures .seen) (c .before .worst-of .ensures .0 z), s .ensures .seen)
+returns-2 c = let s = c .before .before .before .before .before .before .before .settle in (
+  λ z. seen-worst (s .kept .0) (settled-seen (s .ensures)) (c .before .worst-of .ensures .0 z),
+  settled-seen (s .ensures),
+)
 
 settle-requires-2 : tie.Need-settle-requires-2
 settle-requires-2 c κs = search needs
@@ -38,7 +41,10 @@ same-length-4 : tie.Need-same-length-4
 same-length-4 c = search needs
 
 returns-3 : tie.Need-returns-3
-returns-3 c = let s = c .before .before .before .before .before .before .before .before .before .before .before .before .before .before .settle in (λ z. seen-worst (s .kept .0) (s .ensures .seen) (c .before .before .before .before .before .before .before .before .worst-of .ensures .0 z), seen-then (s .kept .0) (s .ensures .seen) (c .before .before .before .before .settle2 .ensures .seen))
+returns-3 c = let s = c .before .before .before .before .before .before .before .before .before .before .before .before .before .before .settle in (
+  λ z. seen-worst (s .kept .0) (settled-seen (s .ensures)) (c .before .before .before .before .before .before .before .before .worst-of .ensures .0 z),
+  seen-then (s .kept .0) (settled-seen (s .ensures)) (settled-seen (c .before .before .before .before .settle2 .ensures)),
+)
 
 pub search-first-spec : {M : Type 1} → statement M
 search-first-spec =

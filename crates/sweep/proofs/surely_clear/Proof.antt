@@ -1,6 +1,6 @@
--- `surely_clear`: lines without a clash meet in no worse way than apart. Rests on Arranging and Grades.
+-- `surely_clear`: lines without a clash meet in no worse way than apart. Rests on Seeing and Grades.
 use Rattle.sweep.proofs.Grades.{worst-clear}
-use Rattle.sweep.proofs.Arranging.{settled-onward, seen-worst}
+use Rattle.sweep.proofs.Seeing.{settled-seen, settled-onward, seen-worst}
 use native.Mathlib.Omega.{arith}
 use borrow.Author.Needs.{needs}
 use Rattle.sweep.proofs.surely_clear.Statement.{statement}
@@ -22,7 +22,8 @@ same-length-3 : tie.Need-same-length-3
 same-length-3 c = search needs
 
 returns : tie.Need-returns
-returns c = let s = c .before .before .before .before .before .before .before .before .before .settle in (λ z. seen-worst (s .kept .0) (s .ensures .seen) (worst-clear (c .before .before .clear .ensures z)), s .ensures .seen)
+returns c = let s = c .before .before .before .before .before .before .before .before .before .settle in
+    (λ z. seen-worst (s .kept .0) (settled-seen (s .ensures)) (worst-clear (c .before .before .clear .ensures z)), settled-seen (s .ensures))
 
 pub surely-clear-spec : {M : Type 1} → statement M
 surely-clear-spec =

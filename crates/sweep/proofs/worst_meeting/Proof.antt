@@ -1,6 +1,6 @@
-use Rattle.sweep.proofs.Arranging.{long-at, settled-onward, settled-ascends, seen-worst}
+-- `worst_meeting`: by the first search, or the lines are clear, or by a search to the end. Rests on Seeing.
+use Rattle.sweep.proofs.Seeing.{long-at, settled-seen, settled-onward, settled-ascends, seen-worst}
 use mathlib.Core.Path.{refl, _∙_}
--- `worst_meeting`: by the first search, or the lines are clear, or by a search to the end. Rests on Arranging.
 use native.Mathlib.Omega.{arith}
 use borrow.Author.Needs.{needs}
 use Rattle.sweep.proofs.worst_meeting.Statement.{statement}
@@ -54,7 +54,7 @@ same-length-8 c = search needs
 
 returns-3 : tie.Need-returns-3
 returns-3 c = let f = c .before .before .before .before .before .before .before .before .before .before .before .before .before .before .before .before .before .before .before .before .before .before .before .before .before .search-first in let g = c .before .before .before .before .before .before .before .before .before .before .before .before .before .before .before .before .surely-clear in let s = c .before .before .before .before .before .before .settle in
-    seen-worst (f .kept .0) (f .ensures .1) (seen-worst (g .kept .0) (g .ensures .1) (seen-worst (s .kept .0) (s .ensures .seen) (c .worst-of .ensures .0 (c .worst-of .ensures .1 refl))))
+    seen-worst (f .kept .0) (f .ensures .1) (seen-worst (g .kept .0) (g .ensures .1) (seen-worst (s .kept .0) (settled-seen (s .ensures)) (c .worst-of .ensures .0 (c .worst-of .ensures .1 refl))))
 
 pub worst-meeting-spec : {M : Type 1} → statement M
 worst-meeting-spec =

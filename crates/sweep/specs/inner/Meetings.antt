@@ -43,3 +43,7 @@ pub record WorstFrom (j i : ℕ) (l : List ℕ) (w m : Meeting) : Type 0 where
 pub record Worst (n : ℕ) (l : List ℕ) (m : Meeting) : Type 0 where
   pub found : (grade m ≡ 0) ⊎ Pairs n (λ i j. Met m (getD l i 0) (getD l j 0))
   pub none-worse : (i j : ℕ) → i < j → j < n → NoWorse m (getD l i 0) (getD l j 0)
+
+-- The worst meeting of two of n lines of a is that of two of b.
+pub record Seen (n : ℕ) (a b : List ℕ) : Type 0 where
+  pub worst : (m : Meeting) → Worst n b m → Worst n a m

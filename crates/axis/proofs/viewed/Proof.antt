@@ -1,6 +1,6 @@
 -- `viewed`: by the two cases.
-use Rattle.sweep.proofs.axis.viewed.Statement.{statement}
-use Rattle.sweep.proofs.axis.viewed.Tie as tie
+use Rattle.axis.proofs.viewed.Statement.{statement}
+use Rattle.axis.proofs.viewed.Tie as tie
 
 returns : tie.Need-returns
 returns c = rw (c .if1 .taken)

@@ -6,11 +6,9 @@ use mathlib.Core.List.{List}
 use Prim.Native.Nat.{ℕ, _≤_, _<_}
 use lib.ListN.{getD}
 use Rattle.segment.specs.declared.Point.{Point}
-use Rattle.segment.specs.declared.meeting.Meeting.{Meeting}
 use Rattle.segment.specs.inner.Test.{transpose}
-use Rattle.sort.specs.inner.Order.{Ascending}
+use Rattle.sort.specs.inner.Order.{Rearranged, Ascending}
 use Rattle.line.specs.inner.Line.{startOf, endOf, first, last, Onward}
-use Rattle.sweep.specs.inner.Meetings.{Worst}
 
 abbrev pub view : Bool → Point → Point
 view true P = transpose P
@@ -25,12 +23,11 @@ pub record Joined (P Q : Point) (r : ℕ) : Type 0 where
 pub record Arranged (across : Bool) (n : ℕ) (a b : List ℕ) : Type 0 where
   pub line : (i : ℕ) → i < n → Joined (view across (startOf (getD a i 0))) (view across (endOf (getD a i 0))) (getD b i 0)
 
--- The worst meeting of two of n lines of a is that of two of b.
-pub record Seen (n : ℕ) (a b : List ℕ) : Type 0 where
-  pub worst : (m : Meeting) → Worst n b m → Worst n a m
-
 -- The lines of b are those of a, seen along one axis or the other, and sorted by their ends.
 pub record Settled (n : ℕ) (a b : List ℕ) : Type 0 where
+  pub across : Bool
+  pub seen : List ℕ
+  pub arranged : Arranged across n a seen
+  pub moved : Rearranged n seen b
   pub onward : Onward n b
   pub ascends : Ascending last n b
-  pub seen : Seen n a b

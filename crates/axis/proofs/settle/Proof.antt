@@ -1,8 +1,8 @@
 -- `settle`: the lines as they are seen and sorted meet no other way. Rests on Arranging.
-use Rattle.sweep.proofs.Arranging.{settled}
+use Rattle.axis.proofs.Arranging.{settled}
 use borrow.Author.Needs.{needs}
-use Rattle.sweep.proofs.axis.settle.Statement.{statement}
-use Rattle.sweep.proofs.axis.settle.Tie as tie
+use Rattle.axis.proofs.settle.Statement.{statement}
+use Rattle.axis.proofs.settle.Tie as tie
 
 arrange-requires : tie.Need-arrange-requires
 arrange-requires c κs = search needs

@@ -2,8 +2,8 @@
 use Prim.Native.Nat.{_≤_, _*_, _-_}
 use lib.ListN.{length}
 use borrow.Author.Needs.{needs}
-use Rattle.sweep.proofs.axis.reach_along.Statement.{statement}
-use Rattle.sweep.proofs.axis.reach_along.Tie as tie
+use Rattle.axis.proofs.reach_along.Statement.{statement}
+use Rattle.axis.proofs.reach_along.Tie as tie
 
 abbrev Inv-loop : tie.InvT-loop
 Inv-loop lines across r₀ i₀ r i = (i ≤ length lines) × (r .sum ≤ 65535 * i)

@@ -1,9 +1,9 @@
 -- `aligned`: as it is, or joined anew. Rests on Arranging.
 use borrow.Author.Tests.{not-true}
-use Rattle.sweep.proofs.Arranging.{joined-same, joined-by}
+use Rattle.axis.proofs.Arranging.{joined-same, joined-by}
 use borrow.Author.Needs.{needs}
-use Rattle.sweep.proofs.axis.aligned.Statement.{statement}
-use Rattle.sweep.proofs.axis.aligned.Tie as tie
+use Rattle.axis.proofs.aligned.Statement.{statement}
+use Rattle.axis.proofs.aligned.Tie as tie
 
 returns : tie.Need-returns
 returns c = let s = c .before .before in joined-same (s .args .across) (s .args .k) (not-true (s .args .across) (c .before .if1 .taken)) (c .if2 .taken)

@@ -2,10 +2,10 @@
 use native.Mathlib.Omega.{arith}
 use Prim.Native.Nat.{_≤_, _-_}
 use lib.ListN.{length}
-use Rattle.sweep.proofs.Arranging.{Arranging, arranging-none, arranging-more, arranging-all}
+use Rattle.axis.proofs.Arranging.{Arranging, arranging-none, arranging-more, arranging-all}
 use borrow.Author.Needs.{needs}
-use Rattle.sweep.proofs.axis.arrange.Statement.{statement}
-use Rattle.sweep.proofs.axis.arrange.Tie as tie
+use Rattle.axis.proofs.arrange.Statement.{statement}
+use Rattle.axis.proofs.arrange.Tie as tie
 
 abbrev Inv-loop : tie.InvT-loop
 Inv-loop lines₀ across i₀ lines i = (i ≤ length lines₀) × Arranging across i lines₀ lines

@@ -1,65 +1,23 @@
 -- Lines seen along an axis, and in another order: the worst meeting is the same. Rests on Grades, on the laws of the four kinds and on those of rearrangements.
-use mathlib.Core.Path.{_≡_, refl, ap, sym, _∙_, subst, subst₂}
-use mathlib.Core.Logic.{_⊎_, inl, inr, ⊎-map, ⊎-swap}
+use mathlib.Core.Path.{_≡_, sym, subst}
+use mathlib.Core.Logic.{_⊎_, inl, inr, ⊎-map}
 use mathlib.Core.Bool.{Bool, true, false}
 use mathlib.Core.List.{List}
-use Prim.Native.Nat.{ℕ, _+_, _≤_, _<_}
-use native.Mathlib.Decide.{ℕ-discrete}
+use Prim.Native.Nat.{ℕ, _≤_, _<_}
 use native.Mathlib.Omega.{arith}
-use lib.ListN.{length, length-set, getD, set}
-use lib.Seq.{getD-set-same, getD-set-other}
+use lib.ListN.{getD}
 use Rattle.segment.specs.declared.Point.{Point}
 use Rattle.segment.specs.declared.meeting.Meeting.{Meeting}
-use Rattle.segment.specs.inner.Test.{number}
 use Rattle.segment.proofs.Alike.{Alike, alike-same, alike-then, alike-back, alike-exchange, alike-turn-first, alike-transpose}
 use Rattle.segment.proofs.FourKinds.{alike-kind}
 use Rattle.sort.specs.inner.Order.{Rearranged, Ascending}
-use Rattle.sort.proofs.Rearranging.{turned, all-one, any-two, all-two}
-use Rattle.line.specs.inner.Line.{startOf, endOf, first, last, Onward}
-use Rattle.sweep.specs.inner.Meetings.{Met, NoWorse, Worst}
-use Rattle.sweep.specs.inner.Arranged.{view, Joined, Arranged, Seen, Settled}
-use Rattle.line.proofs.Numbers.{number-first, number-last}
+use Rattle.sort.proofs.Rearranging.{turned, any-two, all-two}
+use Rattle.line.specs.inner.Line.{startOf, endOf, last, Onward}
+use Rattle.axis.specs.inner.Arranged.{view, Joined, Arranged, Settled}
+use Rattle.sweep.specs.inner.Meetings.{Met, NoWorse, Worst, Seen}
 use Rattle.sweep.proofs.Grades.{worst-at}
 
--- ---- the loop
-
-pub record Arranging (across : Bool) (i : ℕ) (a b : List ℕ) : Type 0 where
-  pub long : length b ≡ length a
-  pub done : Arranged across i a b
-  pub rest : (j : ℕ) → i ≤ j → getD b j 0 ≡ getD a j 0
-
-pub arranging-none : (across : Bool) (a : List ℕ) → Arranging across 0 a a
-arranging-none across a = record { long = refl; done = record { line = λ i h. absurd (omega arith) }; rest = λ j h. refl }
-
-pub arranging-more : {across : Bool} {i v : ℕ} {a b : List ℕ} → i < length b → Arranging across i a b → Joined (view across (startOf (getD b i 0))) (view across (endOf (getD b i 0))) v → Arranging across (i + 1) a (set b i v)
-arranging-more {across} {i} {v} {a} {b} h l x = record {
-  long = length-set b i v ∙ l .long;
-  done = record { line = λ j k. go j k (ℕ-discrete j i) };
-  rest = λ j k. getD-set-other b i j v 0 (omega arith) ∙ l .rest j (omega arith);
-}
-  where
-    go : (j : ℕ) → j < i + 1 → Dec (j ≡ i) → Joined (view across (startOf (getD a j 0))) (view across (endOf (getD a j 0))) (getD (set b i v) j 0)
-    go j k (yes e) = rw (e, getD-set-same b i v 0 h, ← l .rest i (omega arith)) x
-    go j k (no e) = rw (getD-set-other b i j v 0 e) (l .done .line j (omega arith))
-
-pub arranging-all : {across : Bool} {i n : ℕ} {a b : List ℕ} → i ≡ n → Arranging across i a b → Arranged across n a b
-arranging-all {across} {a = a} {b} e l = subst (λ (k : ℕ). Arranged across k a b) e (l .done)
-
--- A line packed of two points whose numbers are in order.
-pub joined-forth : {P Q : Point} {r n m : ℕ} → startOf r ≡ P → endOf r ≡ Q → n ≡ number 65536 P → m ≡ number 65536 Q → n ≤ m → Joined P Q r
-joined-forth {P} {Q} {r} p q e f h = record { ends = inl (p, q); onward = omega (arith, number-first r, number-last r, ap (number 65536) p, ap (number 65536) q) }
-
--- A line that goes on already, and one packed anew.
-pub joined-same : (across : Bool) (k : ℕ) → across ≡ false → first k ≤ last k → Joined (view across (startOf k)) (view across (endOf k)) k
-joined-same across k e h = rw e (record { ends = inl (refl, refl); onward = h })
-
-pub joined-by : (across : Bool) (k : ℕ) {r : ℕ} {P Q R S : Point} → P ≡ startOf k → Q ≡ endOf k → R ≡ view across P → S ≡ view across Q → Joined R S r → Joined (view across (startOf k)) (view across (endOf k)) r
-joined-by across k {r} p q e f x = subst₂ (λ (X Y : Point). Joined X Y r) (e ∙ ap (view across) p) (f ∙ ap (view across) q) x
-
-pub joined-back : {P Q : Point} {r : ℕ} → Joined Q P r → Joined P Q r
-joined-back x = record { ends = ⊎-swap (x .ends); onward = x .onward }
-
--- ---- the meeting of two lines so seen
+-- ---- the meeting of two lines seen along an axis
 
 view-alike : (across : Bool) (P Q R S : Point) → Alike (view across P) (view across Q) (view across R) (view across S) P Q R S
 view-alike true P Q R S = alike-back (alike-transpose P Q R S)
@@ -102,13 +60,10 @@ worst-arranged {across} {n} {a} {b} {m} r w = record {
     same : (i j : ℕ) → i < n → j < n → Alike (startOf (getD b i 0)) (endOf (getD b i 0)) (startOf (getD b j 0)) (endOf (getD b j 0)) (startOf (getD a i 0)) (endOf (getD a i 0)) (startOf (getD a j 0)) (endOf (getD a j 0))
     same i j h k = alike-then (joined-alike (r .line i h) (r .line j k)) (view-alike across (startOf (getD a i 0)) (endOf (getD a i 0)) (startOf (getD a j 0)) (endOf (getD a j 0)))
 
--- Both, with the lengths as the code has them.
-pub settled : {across : Bool} {n k : ℕ} {a b c : List ℕ} → Arranged across n a b → Rearranged k b c → Ascending last k c → k ≡ n → Settled n a c
-settled {n = n} {k} {a} {b} {c} r s u e = record {
-  onward = record { onward = λ i h. all-one (λ x. first x ≤ last x) s (λ j g. r .line j (omega arith) .onward) i (omega arith) };
-  ascends = subst (λ (m : ℕ). Ascending last m c) e u;
-  seen = record { worst = λ m h. worst-arranged r (worst-at e (worst-rearranged s (worst-at (sym e) h))) };
-}
+-- ---- lines settled
+
+pub settled-seen : {n : ℕ} {a b : List ℕ} → Settled n a b → Seen n a b
+settled-seen s = record { worst = λ m h. worst-arranged (s .arranged) (worst-rearranged (s .moved) h) }
 
 -- What is settled, with the length that it has then.
 pub long-at : {k n m : ℕ} → k ≡ n → n ≤ m → k ≤ m

@@ -13,7 +13,7 @@ ghost use mathlib.Core.Path.{_≡_};
 ghost use Prim.Native.Nat.{_+_, _≤_, _<_};
 ghost use lib.ListN.{length};
 ghost use Rattle.line.specs.inner.Line.{startOf, endOf};
-ghost use Rattle.sweep.specs.inner.Arranged.{view, Joined, Arranged, Settled};
+ghost use Rattle.axis.specs.inner.Arranged.{view, Joined, Arranged, Settled};
 
 // The line between p and q, from the one with the lesser number.
 fn join(p: Point, q: Point) -> u64

@@ -1,9 +1,9 @@
 -- `join`: by which number is the lesser. Rests on Arranging.
 use native.Mathlib.Omega.{arith}
-use Rattle.sweep.proofs.Arranging.{joined-forth, joined-back}
+use Rattle.axis.proofs.Arranging.{joined-forth, joined-back}
 use borrow.Author.Needs.{needs}
-use Rattle.sweep.proofs.axis.join.Statement.{statement}
-use Rattle.sweep.proofs.axis.join.Tie as tie
+use Rattle.axis.proofs.join.Statement.{statement}
+use Rattle.axis.proofs.join.Tie as tie
 
 number-requires : tie.Need-number-requires
 number-requires c κs = search needs

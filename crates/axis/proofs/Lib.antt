@@ -1,0 +1,2 @@
+-- The laws of lines seen along an axis. None is assumed.
+pub mod Arranging

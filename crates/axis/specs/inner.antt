@@ -1,0 +1,2 @@
+-- Lines seen along either axis.
+pub mod Arranged
