@@ -113,7 +113,7 @@ fn abreast(r: Reach) -> u64
     r.sum / (widened(r.high) - widened(r.low) + 1)
 }
 
-// Along which axis lines are searched, and whether they lie far abreast along both. Either answer is right: it decides only the time.
+// Along which axis lines are searched, and whether they lie far abreast along both. Any answer is right: it decides only the time.
 pub struct View {
     pub across: bool,
     pub far: bool,
@@ -122,6 +122,7 @@ pub struct View {
 // By columns, if many lines, more than seven, lie abreast by rows, and fewer by columns; far, if more than 12 do by both.
 pub fn view_of(lines: &[u64]) -> View
     requires { ⌜ length (now lines) ≤ 4097 ⌝ }
+    ensures { λ _. ⊤ₛ }
 {
     let rows = abreast(reach_along(lines, false));
     if rows <= 7 {

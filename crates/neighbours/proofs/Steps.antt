@@ -7,7 +7,7 @@ use native.Mathlib.Nat.{mul-le-mul-left}
 use native.Mathlib.Numerals.{add-one}
 use native.Mathlib.Decide.{decLt, ℕ-discrete}
 use native.Mathlib.Omega.{arith}
-use lib.ListN.{getD}
+use lib.ListN.{length, getD}
 use Rattle.segment.specs.declared.Point.{Point}
 use Rattle.segment.specs.Segment.{Is, Clash}
 use Rattle.segment.specs.inner.Test.{number}
@@ -18,7 +18,7 @@ use Rattle.sort.specs.inner.Order.{Below}
 use Rattle.line.specs.inner.Line.{startOf, endOf, first, last, Onward}
 use Rattle.line.proofs.Numbers.{number-first, number-last, start-fits, end-fits}
 use Rattle.neighbours.specs.inner.Side.{Ends, Next}
-use Rattle.neighbours.specs.inner.Abreast.{Clashes, NoClash, at, Starting, Clear, Abreast, Replaced}
+use Rattle.neighbours.specs.inner.Abreast.{Clashes, NoClash, Places, at, Starting, Clear, Abreast, Downto, Replaced}
 use Rattle.neighbours.proofs.Levels.{EndAt, Ordered, right-ordered, left-ordered}
 use Rattle.neighbours.proofs.Chain.{Spot, spot, Under, under-next, under-more, under-on}
 
@@ -142,22 +142,27 @@ advance {n} {i} {t} {m} {l} {a} o h t′ d start j k g b v = record { clear = λ
 
 -- ---- lines go out, and one comes in or none
 
+-- What b has at s.
+pub replaced-all : {i m m′ d p e : ℕ} {a b : List ℕ} → d ≤ 1 → (e ≤ m) × (m′ + e ≡ m + p + d) → p ≤ e → Replaced d m p e i a b →
+    (A : ℕ → Type 0) → ((s : ℕ) → s < m → A (getD a s 0)) → (0 < d → A i) → (s : ℕ) → s < m′ → A (getD b s 0)
+replaced-all {i} {m} {m′} {d} {p} {e} {a} {b} one count onward changed A old new s k = go (decLt s p) (decLt s (p + d))
+  where
+    go : Dec (s < p) → Dec (s < p + d) → A (getD b s 0)
+    go (yes u) v = subst A (sym (changed .before s u)) (old s (omega arith))
+    go (no u) (yes v) = subst A (sym (ap (λ (z : ℕ). getD b z 0) (omega arith) ∙ changed .here (omega arith))) (new (omega arith))
+    go (no u) (no v) =
+        let r = s - (p + d) in
+        subst A (sym (ap (λ (z : ℕ). getD b z 0) (omega arith) ∙ changed .after r (omega arith))) (old (e + r) (omega arith))
+
 module _ {n i i′ t t′ m m′ d p e : ℕ} {l a b : List ℕ} (o : Onward n l) (h : Abreast n i t m l a) (lines : (d ≤ 1) × (i′ + d ≡ i) × (i ≤ n)) (count : (e ≤ m) × (m′ + e ≡ m + p + d))
     (out : Starting p e t′ l a) (in′ : 0 < d → last (getD l i′ 0) ≡ t′) (changed : Replaced d m p e i′ a b) where
-  -- what b has at s, and where b has what a had at s
-  replaced-all : (A : ℕ → Type 0) → ((s : ℕ) → s < m → A (getD a s 0)) → (0 < d → A i′) → (s : ℕ) → s < m′ → A (getD b s 0)
-  replaced-all A old new s k = go (decLt s p) (decLt s (p + d))
-    where
-      go : Dec (s < p) → Dec (s < p + d) → A (getD b s 0)
-      go (yes u) v = subst A (sym (changed .before s u)) (old s (omega (arith, out .onward)))
-      go (no u) (yes v) = subst A (sym (ap (λ (z : ℕ). getD b z 0) (omega arith) ∙ changed .here (omega arith))) (new (omega arith))
-      go (no u) (no v) =
-          let r = s - (p + d) in
-          subst A (sym (ap (λ (z : ℕ). getD b z 0) (omega arith) ∙ changed .after r (omega arith))) (old (e + r) (omega arith))
+  all-of-b : (A : ℕ → Type 0) → ((s : ℕ) → s < m → A (getD a s 0)) → (0 < d → A i′) → (s : ℕ) → s < m′ → A (getD b s 0)
+  all-of-b = replaced-all (lines .0) count (out .onward) changed
 
-  pub replaced-below : (s : ℕ) → s < m′ → getD b s 0 < n
-  replaced-below = replaced-all (λ j. j < n) (h .below) (λ z. omega arith)
+  below : (s : ℕ) → s < m′ → getD b s 0 < n
+  below = all-of-b (λ j. j < n) (h .below) (λ z. omega arith)
 
+  -- where b has what a had at s
   stays : (s : ℕ) → s < m → (s < p) ⊎ (e ≤ s) → Below m′ (λ r. getD b r 0 ≡ getD a s 0)
   stays s k (inl u) = (s, omega (arith, out .onward), changed .before s u)
   stays s k (inr u) = let r = s - e in (p + d + r, omega (arith, out .onward), changed .after r (omega arith) ∙ ap (λ (z : ℕ). getD a z 0) (omega arith))
@@ -190,8 +195,8 @@ module _ {n i i′ t t′ m m′ d p e : ℕ} {l a b : List ℕ} (o : Onward n l
   pub abreast-on : t′ ≤ t → ((s : ℕ) → s + 1 ≡ p → p < m′ → Next (at l b (s + 1)) (at l b s)) → (0 < d → p + 1 < m′ → Next (at l b (p + 1)) (at l b p)) →
       Abreast n i′ t′ m′ l b
   abreast-on down left right = record {
-    from = replaced-all (λ j. i′ ≤ j) (λ s u. omega (arith, h .from s u)) (λ z. omega arith);
-    below = replaced-below;
+    from = all-of-b (λ j. i′ ≤ j) (λ s u. omega (arith, h .from s u)) (λ z. omega arith);
+    below = below;
     come = come;
     next = next;
     all = λ j u v w. all j u v w (decLt j i);
@@ -199,7 +204,7 @@ module _ {n i i′ t t′ m m′ d p e : ℕ} {l a b : List ℕ} (o : Onward n l
   }
     where
       come : (s : ℕ) → s < m′ → t′ ≤ last (at l b s)
-      come = replaced-all (λ j. t′ ≤ last (getD l j 0)) (λ s u. omega (arith, h .come s u)) (λ z. omega (arith, in′ z))
+      come = all-of-b (λ j. t′ ≤ last (getD l j 0)) (λ s u. omega (arith, h .come s u)) (λ z. omega (arith, in′ z))
 
       next : (s : ℕ) → s + 1 < m′ → Next (at l b (s + 1)) (at l b s)
       next = replaced-next left right
@@ -234,7 +239,7 @@ module _ {n i i′ t t′ m m′ d p e : ℕ} {l a b : List ℕ} (o : Onward n l
           go c (yes y) s = y
           go c (no y) (yes s) =
               let x = meets-of c in
-              absurd (apart b o replaced-below come next t′ start (
+              absurd (apart b o below come next t′ start (
                 p,
                 omega (arith, out .onward),
                 changed .here (omega arith) ∙
@@ -246,24 +251,30 @@ module _ {n i i′ t t′ m m′ d p e : ℕ} {l a b : List ℕ} (o : Onward n l
               (up (getD l j 0) (o .onward j (omega arith))) (omega (arith, number-first (getD l k 0), number-last (getD l j 0), ends)) (clash-exchange c))
 
 -- For the code: line i comes in, and none does.
-module _ {n i t m p e : ℕ} {l a b : List ℕ} (o : Onward n l) (h : Abreast n (i + 1) t m l a) (out : Starting p e (last (getD l i 0)) l a) (k : e ≤ m) (g : i < n) (changed : Replaced 1 m p e i a b) where
-  pub in-below : (s : ℕ) → s < m + p + 1 - e → getD b s 0 < n
-  in-below = replaced-below o h (omega arith, refl, omega arith) (k, omega arith) out (λ z. refl) changed
+pub in-places : {n i m p e : ℕ} {a b : List ℕ} → Places n m a → p ≤ e → e ≤ m → i < n → m < length b → Replaced 1 m p e i a b → Places n (m + p + 1 - e) b
+in-places {n} w o k g r changed = record { room = omega arith; below = replaced-all (omega arith) (k, omega arith) o changed (λ j. j < n) (w .below) (λ z. g) }
 
-  pub abreast-in : last (getD l i 0) ≤ t → ((s : ℕ) → s + 1 ≡ p → p < m + p + 1 - e → Next (at l b (s + 1)) (at l b s)) →
-      ((s : ℕ) → s + 1 ≡ p + 1 → p + 1 < m + p + 1 - e → Next (at l b (s + 1)) (at l b s)) → Abreast n i (last (getD l i 0)) (m + p + 1 - e) l b
-  abreast-in down left right = abreast-on o h (omega arith, refl, omega arith) (k, omega arith) out (λ z. refl) changed down left (λ z. right p refl)
+pub abreast-in : {n i m p e : ℕ} {l a b : List ℕ} → Onward n l → Starting p e (last (getD l i 0)) l a → e ≤ m → i < n → Replaced 1 m p e i a b →
+    ((s : ℕ) → s + 1 ≡ p → p < m + p + 1 - e → Next (at l b (s + 1)) (at l b s)) →
+    ((s : ℕ) → s + 1 ≡ p + 1 → p + 1 < m + p + 1 - e → Next (at l b (s + 1)) (at l b s)) → Downto n (i + 1) i (last (getD l i 0)) m (m + p + 1 - e) l a b
+abreast-in {p = p} o out k g changed left right = record {
+  down = λ t down h. abreast-on o h (omega arith, refl, omega arith) (k, omega arith) out (λ z. refl) changed down left (λ z. right p refl);
+}
 
-module _ {n i t level m p e : ℕ} {l a b : List ℕ} (o : Onward n l) (h : Abreast n i t m l a) (out : Starting p e level l a) (k : e ≤ m) (g : i ≤ n) (changed : Replaced 0 m p e 0 a b) where
-  unchanged : Replaced 0 m p e i a b
-  unchanged = record { before = changed .before; here = λ z. absurd (omega arith); after = changed .after }
+pub out-places : {n m p e : ℕ} {a b : List ℕ} → Places n m a → p ≤ e → e ≤ m → m ≤ length b → Replaced 0 m p e 0 a b → Places n (m + p - e) b
+out-places {n} w o k r changed = record {
+  room = omega arith;
+  below = replaced-all (omega arith) (k, omega arith) o changed (λ j. j < n) (w .below) (λ z. absurd (omega arith));
+}
 
-  pub out-below : (s : ℕ) → s < m + p - e → getD b s 0 < n
-  out-below = replaced-below o h (omega arith, omega arith, g) (k, omega arith) out (λ z. absurd (omega arith)) unchanged
-
-  pub abreast-out : level ≤ t → ((s : ℕ) → s + 1 ≡ p → p < m + p - e → Next (at l b (s + 1)) (at l b s)) → Abreast n i level (m + p - e) l b
-  abreast-out down left =
-      abreast-on o h (omega arith, omega arith, g) (k, omega arith) out (λ z. absurd (omega arith)) unchanged down left (λ z. absurd (omega arith))
+pub abreast-out : {n i t m p e : ℕ} {l a b : List ℕ} → Onward n l → Starting p e t l a → e ≤ m → i ≤ n → Replaced 0 m p e 0 a b →
+    ((s : ℕ) → s + 1 ≡ p → p < m + p - e → Next (at l b (s + 1)) (at l b s)) → Downto n i i t m (m + p - e) l a b
+abreast-out {i = i} {m = m} {p} {e} {a = a} {b} o out k g changed left = record {
+  down = λ s down h. abreast-on o h (omega arith, omega arith, g) (k, omega arith) out (λ z. absurd (omega arith)) none down left (λ z. absurd (omega arith));
+}
+  where
+    none : Replaced 0 m p e i a b
+    none = record { before = changed .before; here = λ z. absurd (omega arith); after = changed .after }
 
 -- ---- before the first line, and after the last
 

@@ -1,7 +1,7 @@
 -- The lines abreast at a level of a sweep, from right to left. It goes from the greatest number down: a line comes in at its end and goes out at its start.
 use mathlib.Core.Path.{_≡_}
 use mathlib.Core.List.{List}
-use Prim.Native.Nat.{ℕ, _+_, _*_, _≤_, _<_}
+use Prim.Native.Nat.{ℕ, _+_, _-_, _*_, _≤_, _<_}
 use lib.ListN.{length, getD}
 use Rattle.segment.specs.Segment.{Clash}
 use Rattle.sort.specs.inner.Order.{Below}
@@ -25,6 +25,10 @@ pub record Places (n m : ℕ) (a : List ℕ) : Type 0 where
 abbrev pub at : List ℕ → List ℕ → ℕ → ℕ
 at l a p = getD l (getD a p 0) 0
 
+-- The line before i, if there is one, ends at t or below.
+pub record EndsBy (i t : ℕ) (l : List ℕ) : Type 0 where
+  pub by : 0 < i → last (getD l (i - 1) 0) ≤ t
+
 -- The lines from p to before e start at the level t.
 pub record Starting (p e t : ℕ) (l a : List ℕ) : Type 0 where
   pub onward : p ≤ e
@@ -43,6 +47,10 @@ pub record Abreast (n i t m : ℕ) (l a : List ℕ) : Type 0 where
   pub next : (p : ℕ) → p + 1 < m → Next (at l a (p + 1)) (at l a p)
   pub all : (j : ℕ) → i ≤ j → j < n → first (getD l j 0) < t → Below m (λ p. getD a p 0 ≡ j)
   pub clear : ((p : ℕ) → p < m → first (at l a p) ≤ t) → (j k : ℕ) → i ≤ j → j < k → k < n → Clear t (getD l j 0) (getD l k 0)
+
+-- From any level, not below t, down to t: lines abreast there, in a, are abreast here, in b.
+pub record Downto (n i i′ t m m′ : ℕ) (l a b : List ℕ) : Type 0 where
+  pub down : (s : ℕ) → t ≤ s → Abreast n i s m l a → Abreast n i′ t m′ l b
 
 -- b is a, of whose elements the first m count, without those from p to before e; and with d elements, none or k, in their place.
 pub record Replaced (d m p e k : ℕ) (a b : List ℕ) : Type 0 where

@@ -1,6 +1,6 @@
 -- `surely_clear`: lines without a clash meet in no worse way than apart. Rests on Seeing and Grades.
 use Rattle.sweep.proofs.Grades.{worst-clear}
-use Rattle.sweep.proofs.Seeing.{settled-seen, settled-onward, seen-worst}
+use Rattle.sweep.proofs.Seeing.{settled-seen, settled-onward, settled-ascends, seen-worst}
 use native.Mathlib.Omega.{arith}
 use borrow.Author.Needs.{needs}
 use Rattle.sweep.proofs.surely_clear.Statement.{statement}
@@ -10,7 +10,7 @@ settle-requires : tie.Need-settle-requires
 settle-requires c κs = search needs
 
 clear-requires : tie.Need-clear-requires
-clear-requires c κs = let s = c .before .before .before .before .before .before .settle in (settled-onward (s .kept .0) (s .ensures), (omega arith, omega arith))
+clear-requires c κs = let s = c .before .before .before .before .before .before .settle in (settled-onward (s .kept .0) (s .ensures), (settled-ascends (s .kept .0) (s .ensures), (omega arith, omega arith)))
 
 same-length : tie.Need-same-length
 same-length c = search needs
