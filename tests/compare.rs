@@ -23,8 +23,8 @@ struct Run {
 }
 
 /// The calls whose answers are counted; checks of sheets with many level lines, of ones whose lines cross and touch, of every small sheet, of several trees, of
-/// nodes put on lines and of long lines, draws and wide draws of several trees, calls on every small table, and comparisons of every pair of lines on small grids or far apart, by
-/// themselves.
+/// nodes put on lines and of long lines, draws and wide draws of several trees, calls on every small table, and comparisons of every pair of lines on small
+/// grids or far apart, by themselves.
 const CALLS: [&str; 23] = [
     "draw", "wide", "check", "stroke", "check of level lines", "check of every small sheet", "hang", "cut", "hold", "hang held", "draw of every small table",
     "hang of every small table", "cut of every small table", "hold of every small table", "hang held of every small table",

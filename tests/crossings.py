@@ -322,7 +322,8 @@ def on_another(tree, points, rng):
 
 
 def long_lines(t, rng):
-    """Large sheets whose lines overlap in columns and in rows: good ones, and with a leaf moved onto another line or across some, until each verdict was met twice."""
+    """Large sheets whose lines overlap in columns and in rows: good ones, and with a leaf moved onto another line or across some,
+    until each verdict was met twice."""
     for n, most, even in ((90, 500, True), (200, 30000, False), (400, 30000, False)):
         tree = comb(n)
         data, record = trees.table(tree, rng)

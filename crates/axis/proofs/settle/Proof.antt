@@ -17,7 +17,10 @@ same-length-2 : tie.Need-same-length-2
 same-length-2 c = search needs
 
 returns : tie.Need-returns
-returns c = settled (c .before .before .before .before .before .before .before .before .before .arrange .ensures) (c .before .before .before .before .sort .ensures .0) (c .before .before .before .before .sort .ensures .1) (c .before .before .before .before .before .before .before .before .before .arrange .kept .0)
+returns c =
+    let s = c .before .before .before .before .sort .ensures in
+    let a = c .before .before .before .before .before .before .before .before .before .arrange in
+    settled (a .ensures) (s .0) (s .1) (a .kept .0)
 
 pub settle-spec : {M : Type 1} → statement M
 settle-spec = tie.close (tie.spec arrange-requires sort-requires same-length same-length-2 returns)

@@ -78,14 +78,15 @@ sub-i c = omega (arith, c .before .ends-at .ensures (c .if1 .taken) .0)
 
 come-in-requires : tie.Need-come-in-requires Inv-loop μ-loop
 come-in-requires c κs =
-    let s = c .before .before .before .before .before .before .before .before .before .before .before .before in
-    let l = c .before .before .before .before .before .before .before .before .before .loop in
+    let g = c .before .before .before in
+    let l = g .before .before .before .before .before .before .loop in
+    let s = g .before .before .before .before .before .before .before .before .before in
     let f = c .before .before .ends-at .ensures (c .before .if1 .taken) in (
       s .pre .0,
       (
         record { room = omega arith; below = l .inv .2 .so .below },
         (
-          subst (λ (t : ℕ). Starting (c .before .before .before .before .before .place .result) (c .before .before .before .starting .result) t (s .args .lines .now) (l .abreast)) (sym (f .1)) (c .before .before .before .starting .ensures .1),
+          subst (λ (t : ℕ). Starting (g .before .before .place .result) (g .starting .result) t (s .args .lines .now) (l .abreast)) (sym (f .1)) (g .starting .ensures .1),
           (omega arith, omega (arith, f .0), omega (arith, f .0), omega arith),
         ),
       ),
@@ -113,16 +114,19 @@ sub-m : tie.Need-sub-m Inv-loop μ-loop
 sub-m c = search needs
 
 loop-less : tie.Need-loop-less Inv-loop μ-loop
-loop-less c = omega (arith, c .before .before .before .before .before .before .before .ends-at .ensures (c .before .before .before .before .before .before .if1 .taken) .0, c .before .before .before .before .before .before .before .before .starting .ensures .1 .onward)
+loop-less c =
+    let d = c .before .before .before .before .before .before in
+    let g = d .before .before .starting .ensures in
+    omega (arith, d .before .ends-at .ensures (d .if1 .taken) .0, g .0, g .1 .onward)
 
 loop-again : tie.Need-loop-again Inv-loop μ-loop
 loop-again c =
-    let s = c .before .before .before .before .before .before .before .before .before .before .before .before .before .before .before .before .before in
-    let f = c .before .before .before .before .before .before .before .ends-at .ensures (c .before .before .before .before .before .before .if1 .taken) in (
-      omega (arith, f .0, c .before .before .before .before .before .before .before .before .starting .ensures .1 .onward),
-      omega arith,
-      reached-in (s .pre .0) (s .pre .1 .0) (f .0) (omega arith) (c .before .before .before .before .before .before .before .before .before .before .before .before .before .before .loop .inv .2) (c .before .before .before .before .come-in .ensures (not-false _ (c .before .if2 .left))),
-    )
+    let g = c .before .before .before .before .before .before .before .before in
+    let l = g .before .before .before .before .before .before in
+    let s = l .before .before .before in
+    let f = c .before .before .before .before .before .before .before .ends-at .ensures (c .before .before .before .before .before .before .if1 .taken) in
+    let d = c .before .before .before .before .come-in .ensures (not-false _ (c .before .if2 .left)) in
+    (omega (arith, f .0, g .starting .ensures .1 .onward), omega arith, reached-in (s .pre .0) (s .pre .1 .0) (f .0) (omega arith) (l .loop .inv .2) d)
 
 same-length-2 : tie.Need-same-length-2 Inv-loop μ-loop
 same-length-2 c = search needs
@@ -132,8 +136,10 @@ returns-2 c = λ z. absurd (subst T (sym z) tt)
 
 go-out-requires : tie.Need-go-out-requires Inv-loop μ-loop
 go-out-requires c κs =
-    let l = c .before .before .before .before .before .before .before .before .before .before .loop in
-    (c .before .before .before .before .before .before .before .before .before .before .before .before .before .pre .0, (record { room = omega arith; below = l .inv .2 .so .below }, (c .before .before .before .before .starting .ensures .1 .onward, c .before .before .before .before .starting .ensures .0)))
+    let g = c .before .before .before .before in
+    let l = g .before .before .before .before .before .before in
+    let e = g .starting .ensures in
+    (l .before .before .before .pre .0, (record { room = omega arith; below = l .loop .inv .2 .so .below }, (e .1 .onward, e .0)))
 
 same-length-3 : tie.Need-same-length-3 Inv-loop μ-loop
 same-length-3 c = search needs
@@ -152,12 +158,11 @@ loop-less-2 c = search needs
 
 loop-again-2 : tie.Need-loop-again-2 Inv-loop μ-loop
 loop-again-2 c =
-    let l = c .before .before .before .before .before .before .before .before .before .before .before .before .before .before .loop in
-    let v = c .before .before .before .before .before .before .before .before .before .before .before .before .next-level .ensures in (
-      omega (arith, c .before .before .before .before .before .before .before .before .starting .ensures .1 .onward),
-      omega arith,
-      reached-out (v .0) (v .1) (l .inv .2) (c .before .before .before .go-out .ensures (not-false _ (c .if4 .left)) _ _ (omega arith) (c .before .before .before .before .before .before .before .before .starting .ensures .1)),
-    )
+    let g = c .before .before .before .before .before .before .before .before in
+    let l = g .before .before .before .before .before .before .loop in
+    let v = g .before .before .before .before .next-level .ensures in
+    let d = c .before .before .before .go-out .ensures (not-false _ (c .if4 .left)) (l .i) (g .before .before .before .before .next-level .result) (omega arith) (g .starting .ensures .1) in
+    (omega (arith, g .starting .ensures .1 .onward), omega arith, reached-out (v .0) (v .1) (l .inv .2) d)
 
 same-length-4 : tie.Need-same-length-4 Inv-loop μ-loop
 same-length-4 c = search needs
@@ -166,7 +171,9 @@ returns-4 : tie.Need-returns-4 Inv-loop μ-loop
 returns-4 c = λ z.
     let s = c .before .before .before .before in
     let l = c .before .loop in
-    abreast-over (s .pre .0) (subst₂ (λ (i m : ℕ). Abreast (length (s .args .lines .now)) i (l .inv .2 .level) m (s .args .lines .now) (l .abreast)) (omega arith) (omega arith) (l .inv .2 .so))
+    let r = l .inv .2 in
+    abreast-over (s .pre .0)
+    (subst₂ (λ (i m : ℕ). Abreast (length (s .args .lines .now)) i (r .level) m (s .args .lines .now) (l .abreast)) (omega arith) (omega arith) (r .so))
 
 pub clear-spec : {M : Type 1} → statement M
 clear-spec =

@@ -38,8 +38,8 @@ pub record Starting (p e t : ℕ) (l a : List ℕ) : Type 0 where
 pub record Clear (t x y : ℕ) : Type 0 where
   pub clear : (c : Clashes x y) → 65536 * c .y + c .x < c .q * t
 
--- Of n lines those from i on came in, each at the level t or above; a has the places of m of them, each to the right of the next, and of all that start below t.
--- If none of these starts above t, no two that came in clash at t or above.
+-- Of n lines those from i on came in, each at the level t or above; a has the places of m of them, each to the right of the next, and of all that start
+-- below t. If none of these starts above t, no two that came in clash at t or above.
 pub record Abreast (n i t m : ℕ) (l a : List ℕ) : Type 0 where
   pub from : (p : ℕ) → p < m → i ≤ getD a p 0
   pub below : (p : ℕ) → p < m → getD a p 0 < n

@@ -34,14 +34,22 @@ same-length-5 : tie.Need-same-length-5
 same-length-5 c = search needs
 
 returns-2 : tie.Need-returns-2
-returns-2 c = let f = c .before .before .before .before .before .before .before .before .before .before .before .before .before .before .before .before .search-first in seen-worst (f .kept .0) (f .ensures .1) (c .before .before .before .before .before .before .before .surely-clear .ensures .0 (c .if2 .taken))
+returns-2 c =
+    let q = c .before .before .before .before .before .before .before in
+    let f = q .before .before .before .before .before .before .before .before .before .search-first in
+    seen-worst (f .kept .0) (f .ensures .1) (q .surely-clear .ensures .0 (c .if2 .taken))
 
 settle-requires : tie.Need-settle-requires
 settle-requires c κs = search needs
 
 worst-of-requires : tie.Need-worst-of-requires
-worst-of-requires c κs = let s = c .before .before .before .before .before .settle in
-    ((long-at (s .kept .0 ∙ c .before .before .before .before .before .before .before .before .before .before .before .before .before .before .before .surely-clear .kept .0 ∙ c .before .before .before .before .before .before .before .before .before .before .before .before .before .before .before .before .before .before .before .before .before .before .before .before .search-first .kept .0) (c .before .before .before .before .before .before .before .before .before .before .before .before .before .before .before .before .before .before .before .before .before .before .before .before .before .before .before .before .before .before .before .before .pre .0), omega arith), (settled-onward (s .kept .0) (s .ensures), settled-ascends (s .kept .0) (s .ensures)))
+worst-of-requires c κs =
+    let a = c .before .before .before .before .before in
+    let b = a .before .before .before .before .before .before .before .before .before .before in
+    let d = b .before .before .before .before .before .before .before .before .before in
+    let s = a .settle in
+    let long = long-at (s .kept .0 ∙ b .surely-clear .kept .0 ∙ d .search-first .kept .0) (d .before .before .before .before .before .before .before .before .pre .0) in
+    ((long, omega arith), (settled-onward (s .kept .0) (s .ensures), settled-ascends (s .kept .0) (s .ensures)))
 
 same-length-6 : tie.Need-same-length-6
 same-length-6 c = search needs
@@ -53,8 +61,14 @@ same-length-8 : tie.Need-same-length-8
 same-length-8 c = search needs
 
 returns-3 : tie.Need-returns-3
-returns-3 c = let f = c .before .before .before .before .before .before .before .before .before .before .before .before .before .before .before .before .before .before .before .before .before .before .before .before .before .search-first in let g = c .before .before .before .before .before .before .before .before .before .before .before .before .before .before .before .before .surely-clear in let s = c .before .before .before .before .before .before .settle in
-    seen-worst (f .kept .0) (f .ensures .1) (seen-worst (g .kept .0) (g .ensures .1) (seen-worst (s .kept .0) (settled-seen (s .ensures)) (c .worst-of .ensures .0 (c .worst-of .ensures .1 refl))))
+returns-3 c =
+    let a = c .before .before .before .before .before .before in
+    let b = a .before .before .before .before .before .before .before .before .before .before in
+    let f = b .before .before .before .before .before .before .before .before .before .search-first in
+    let g = b .surely-clear in
+    let s = a .settle in
+    let found = seen-worst (s .kept .0) (settled-seen (s .ensures)) (c .worst-of .ensures .0 (c .worst-of .ensures .1 refl)) in
+    seen-worst (f .kept .0) (f .ensures .1) (seen-worst (g .kept .0) (g .ensures .1) found)
 
 pub worst-meeting-spec : {M : Type 1} → statement M
 worst-meeting-spec =
