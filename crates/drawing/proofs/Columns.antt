@@ -7,7 +7,7 @@ use lib.Dec.{T}
 use Rattle.table.specs.Table.{Side, left, right}
 use Rattle.layout.specs.Spine.{opposite}
 use Rattle.layout.specs.inner.Held.{inwards, far, Inside}
-use Rattle.measure.specs.Chosen.{sideOf}
+use Rattle.roles.specs.Chosen.{sideOf}
 
 pub inside-edge : (a : Side) (e n : ℕ) → Inside 65536 a e (suc n) → e < 65536
 inside-edge left e n c = omega arith

@@ -18,10 +18,10 @@ use Rattle.layout.specs.inner.Held.{inwards, hungOn, heightOn, widthOn, roleNex
 use Rattle.layout.proofs.Spines.{spineTree}
 use Rattle.layout.proofs.Sides.{shape-hung, hung-none, height-none, width-none}
 use Rattle.layout.proofs.Held.{inside-less}
-use Rattle.measure.specs.Chosen.{codeOf}
-use Rattle.measure.specs.inner.Prepared.{Prepared, Along, no-spine, onward}
+use Rattle.roles.specs.Chosen.{codeOf}
+use Rattle.roles.specs.inner.Prepared.{Prepared, Along, no-spine, onward}
 use Rattle.drawing.specs.Answer.{store}
-use Rattle.measure.specs.inner.Roles.{isSwitch}
+use Rattle.roles.specs.inner.Roles.{isSwitch}
 use Rattle.drawing.specs.inner.Placing.{kept, finish, finished, Ready}
 use Rattle.drawing.proofs.StoredOrder.{DisjointLayouts, store-comm, store-join}
 use Rattle.drawing.proofs.Shapes.{Disjoint, shape-lay}

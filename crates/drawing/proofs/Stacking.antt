@@ -25,8 +25,8 @@ use Rattle.layout.specs.inner.Held.{hungOn, heightOn, widthOn}
 use Rattle.layout.proofs.Held.{height-size, hung-shift}
 use Rattle.layout.proofs.Width.{width-small}
 use Rattle.layout.proofs.Stacked.{width-first, height-first}
-use Rattle.measure.specs.inner.Sized.{Sized}
-use Rattle.measure.specs.inner.Prepared.{Prepared}
+use Rattle.roles.specs.inner.Sized.{Sized}
+use Rattle.roles.specs.inner.Prepared.{Prepared}
 use Rattle.drawing.specs.Answer.{store, storeAll}
 use Rattle.drawing.specs.inner.Placing.{Hanging, Hung, Led, TreesDrawn}
 use Rattle.drawing.proofs.Whole.{few-nodes}

@@ -18,12 +18,12 @@ use Rattle.layout.specs.Drawing.{draw}
 use Rattle.layout.specs.inner.Held.{inwards, hungOn, heightOn, widthOn, widestOn, spineOn, lay, bottom, Inside}
 use Rattle.layout.proofs.Sides.{hung-none, height-none, width-none}
 use Rattle.layout.proofs.Held.{inside-less, hung-inside, rooms-law, inside-fits, hung-law, bottom-law, frame-from}
-use Rattle.measure.specs.inner.Sized.{Named}
-use Rattle.measure.specs.Chosen.{sideOf, codeOf}
-use Rattle.measure.specs.inner.Prepared.{Prepared, Along, no-spine, a-spine}
-use Rattle.measure.proofs.Choices.{code-small}
-use Rattle.measure.proofs.Spines.{chained}
-use Rattle.measure.proofs.Frames.{once}
+use Rattle.roles.specs.inner.Sized.{Named}
+use Rattle.roles.specs.Chosen.{sideOf, codeOf}
+use Rattle.roles.specs.inner.Prepared.{Prepared, Along, no-spine, a-spine}
+use Rattle.roles.proofs.Choices.{code-small}
+use Rattle.roles.proofs.Spines.{chained}
+use Rattle.roles.proofs.Frames.{once}
 use Rattle.drawing.specs.Answer.{store}
 use Rattle.drawing.specs.declared.place.Walk.{Walk}
 use Rattle.drawing.specs.inner.Placing.{Hanging, Hung, kept, finish, finished, handAt, spineFrom, Going, unplaced, Stepped, rowBelow, remaining}

@@ -17,13 +17,13 @@ use Rattle.layout.specs.inner.Entries.{withPoint}
 use Rattle.layout.specs.inner.Held.{inwards, hungOn, heightOn, spineOn, roleNext, far, bottom, Inside, GoesOn}
 use Rattle.layout.proofs.Spines.{over, spineTree, spine-either, tree-spine, count-over}
 use Rattle.layout.proofs.Held.{inside-less}
-use Rattle.measure.specs.inner.Sized.{Named}
-use Rattle.measure.specs.Chosen.{sideOf, codeOf}
-use Rattle.measure.specs.inner.Forked.{Forked}
-use Rattle.measure.specs.inner.Prepared.{Along}
-use Rattle.measure.specs.declared.roles.Role.{Role as Coded}
-use Rattle.measure.specs.inner.Roles.{isSwitch, isKnee, handOf, roleOf}
-use Rattle.measure.proofs.Choices.{code-same, code-small}
+use Rattle.roles.specs.inner.Sized.{Named}
+use Rattle.roles.specs.Chosen.{sideOf, codeOf}
+use Rattle.roles.specs.inner.Forked.{Forked}
+use Rattle.roles.specs.inner.Prepared.{Along}
+use Rattle.roles.specs.declared.role.Role.{Role as Coded}
+use Rattle.roles.specs.inner.Roles.{isSwitch, isKnee, handOf, roleOf}
+use Rattle.roles.proofs.Choices.{code-same, code-small}
 use Rattle.drawing.specs.Answer.{store}
 use Rattle.drawing.specs.declared.place.Walk.{Walk}
 use Rattle.drawing.specs.inner.Placing.{Given, Hanging, Hung, finished, Ready, walkTo, handAt, Going, Stepped}

@@ -19,7 +19,7 @@ use Rattle.layout.specs.Layout.{width, height, shift}
 use Rattle.layout.specs.Drawing.{draw, drawing}
 use Rattle.layout.specs.Trees.{drawFrom, drawTrees, widthOf, heightOf}
 use Rattle.layout.proofs.Stacked.{trees-narrow, trees-short}
-use Rattle.measure.specs.inner.Sized.{Named, Sized}
+use Rattle.roles.specs.inner.Sized.{Named, Sized}
 use Rattle.drawing.specs.declared.Plan.{Plan}
 use Rattle.drawing.specs.declared.Drawn.{Drawn}
 use Rattle.drawing.specs.Answer.{store, storeAll, emptyPlan, planOf, drawnOf, placedIn}

@@ -2,8 +2,8 @@
 mod place;
 
 use crate::place::draw_tree;
-use measure::most;
-use measure::prepare;
+use roles::most;
+use roles::prepare;
 use table::read;
 ghost use mathlib.Core.Path.{_≡_};
 ghost use Prim.Native.Nat.{_*_, _≤_};
@@ -12,7 +12,7 @@ ghost use Rattle.table.specs.Table.{records, rootOf, chain as chainOf, Chained}
 ghost use Rattle.table.specs.Trees.{trees};
 ghost use Rattle.table.specs.Refusal.{fault};
 ghost use Rattle.layout.specs.Trees.{drawTrees};
-ghost use Rattle.measure.specs.inner.Sized.{Sized};
+ghost use Rattle.roles.specs.inner.Sized.{Sized};
 ghost use Rattle.drawing.specs.Answer.{storeAll, planOf, drawnOf, placedIn};
 ghost use Rattle.drawing.specs.inner.Placing.{Led, TreesDrawn};
 

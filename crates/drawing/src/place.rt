@@ -1,12 +1,12 @@
 // Placing (document 004, Steps 5 and 6, and the drawings of Step 3; document 01, steps 1 and 3 to 8): the points of a drawing, in the columns and rows of the whole plan, stored among the placements.
 // The roles and W of each spine are handed over and only read; placing chooses none. "004" and "01" below are these documents, whose steps have numbers of their own.
-use measure::Fork;
-use measure::fork_at;
-use measure::most;
-use measure::roles::is_knee;
-use measure::roles::is_right_at;
-use measure::roles::is_switch;
-use measure::roles::role_at;
+use roles::Fork;
+use roles::fork_at;
+use roles::most;
+use roles::role::is_knee;
+use roles::role::is_right_at;
+use roles::role::is_switch;
+use roles::role::role_at;
 ghost use mathlib.Core.Path.{_≡_};
 ghost use Prim.Native.Nat.{_+_, _*_, _<_};
 ghost use lib.ListN.{length};
@@ -15,8 +15,8 @@ ghost use Rattle.table.specs.Tree.{treeAt};
 ghost use Rattle.layout.specs.Spine.{Role as LayoutRole, knee, ordinary, switch};
 ghost use Rattle.layout.specs.inner.Entries.{withPoint};
 ghost use Rattle.layout.specs.inner.Held.{inwards as inwardsOf, far, Inside};
-ghost use Rattle.measure.specs.Chosen.{sideOf, Handed};
-ghost use Rattle.measure.specs.inner.Forked.{Forked};
+ghost use Rattle.roles.specs.Chosen.{sideOf, Handed};
+ghost use Rattle.roles.specs.inner.Forked.{Forked};
 ghost use Rattle.drawing.specs.inner.Placing.{handAt, walkTo, Given, Hanging, Hung, Going, Stepped};
 
 // A walk along the spine of a drawing: the next node and its row, the lowest row used so far, the pending child, 0 for none; the hand that the node

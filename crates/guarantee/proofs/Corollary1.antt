@@ -14,9 +14,9 @@ use Rattle.drawing.specs.declared.Drawn.{Drawn}
 use Rattle.drawing.specs.Answer.{storeAll, planOf, placedIn}
 use Rattle.drawing.proofs.StoredTrees.{stored-length}
 use Rattle.drawing.proofs.Answered.{Accepted, accepted}
-use Rattle.exchange.specs.Exchanged.{exchanged, exchangedPlacements}
-use Rattle.exchange.proofs.Table.{exchanged-chain, exchanged-refusal}
-use Rattle.exchange.proofs.Placements.{points-twice}
+use Rattle.mirror.specs.Exchanged.{exchanged, exchangedPlacements}
+use Rattle.mirror.proofs.Table.{exchanged-chain, exchanged-refusal}
+use Rattle.mirror.proofs.Placements.{points-twice}
 use Rattle.verdict.specs.Verdict.{Verdict}
 use Rattle.width.specs.Allowed.{allowedWidth}
 use Rattle.guarantee.specs.Demand.{Kept}

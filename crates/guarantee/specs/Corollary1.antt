@@ -5,7 +5,7 @@ use lib.ListN.{length}
 use Rattle.table.specs.Table.{chain}
 use Rattle.table.specs.Trees.{trees}
 use Rattle.layout.specs.Trees.{widthOf, heightOf}
-use Rattle.exchange.specs.Exchanged.{exchanged, exchangedPlacements}
+use Rattle.mirror.specs.Exchanged.{exchanged, exchangedPlacements}
 use Rattle.verdict.specs.Verdict.{Verdict}
 use Rattle.width.specs.Allowed.{allowedWidth}
 use Rattle.wide.specs.Wide.{drawWide, widePlacedIn}

@@ -21,7 +21,7 @@ use Rattle.layout.specs.Trees.{drawTrees, widthOf, heightOf}
 use Rattle.drawing.specs.Answer.{storeAll}
 use Rattle.drawing.proofs.StoredTrees.{timesIn, times-trees, stored-kept}
 use Rattle.drawing.proofs.Elsewhere.{elsewhere}
-use Rattle.exchange.proofs.Table.{member-mirrored}
+use Rattle.mirror.proofs.Table.{member-mirrored}
 use Rattle.wide.specs.Wide.{drawWide, wideOf, widePlacedIn}
 use Rattle.wide.proofs.Transposed.{times-turned}
 use Rattle.wide.proofs.Answered.{wide-placed, wide-left}

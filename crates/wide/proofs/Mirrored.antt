@@ -16,12 +16,12 @@ use Rattle.table.proofs.Accepted.{records-bounds, chain-within, chain-length}
 use Rattle.layout.specs.Layout.{mirror}
 use Rattle.layout.specs.Trees.{drawTrees, widthOf, heightOf}
 use Rattle.layout.proofs.Rows.{size-mirror}
-use Rattle.measure.specs.inner.Sized.{Named, Sized}
+use Rattle.roles.specs.inner.Sized.{Named, Sized}
 use Rattle.drawing.specs.declared.Plan.{Plan}
 use Rattle.drawing.specs.Answer.{storeAll, planOf}
 use Rattle.drawing.specs.inner.Placing.{Led}
-use Rattle.exchange.specs.Exchanged.{exchanged, exchangedPlacements, exchangeLinks, exchangePoint, each}
-use Rattle.exchange.proofs.Table.{exchanged-length, exchanged-head, exchanged-chain, exchanged-fault, exchanged-tree-at, exchanged-roots, exchanged-trees}
+use Rattle.mirror.specs.Exchanged.{exchanged, exchangedPlacements, exchangeLinks, exchangePoint, each}
+use Rattle.mirror.proofs.Table.{exchanged-length, exchanged-head, exchanged-chain, exchanged-fault, exchanged-tree-at, exchanged-roots, exchanged-trees}
 use Rattle.wide.specs.Wide.{transposed, drawWide}
 use Rattle.wide.specs.inner.Planned.{widePlanOf}
 use Rattle.wide.proofs.Transposed.{width-turned, height-turned, turned-stored}

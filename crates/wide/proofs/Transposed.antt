@@ -24,8 +24,8 @@ use Rattle.layout.specs.inner.Entries.{pointAt}
 use Rattle.layout.proofs.Entries.{pair, pair-length, pair-point, pair-other, same-points}
 use Rattle.drawing.proofs.StoredPoints.{times, times-placed, store-length}
 use Rattle.drawing.proofs.StoredTrees.{timesIn, times-trees, stored-length, stored-point-kept}
-use Rattle.exchange.specs.Exchanged.{exchangePoint, each, exchangedPlacements}
-use Rattle.exchange.proofs.Placements.{points-long, points-exchanged, points-other}
+use Rattle.mirror.specs.Exchanged.{exchangePoint, each, exchangedPlacements}
+use Rattle.mirror.proofs.Placements.{points-long, points-exchanged, points-other}
 use Rattle.wide.specs.Wide.{transposed}
 
 pub width-transposed : (L : Layout) → width (transposed L) ≡ height L

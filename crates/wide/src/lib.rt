@@ -1,8 +1,8 @@
 // The wide plan: the mirror images of the trees drawn, then column and row of each node exchanged.
 use drawing::Plan;
 use drawing::plan_of;
-use exchange::exchange_placements;
-use exchange::exchange_table;
+use mirror::exchange_placements;
+use mirror::exchange_table;
 use table::read;
 use table::writing::copy;
 ghost use mathlib.Core.Path.{_≡_};
@@ -11,7 +11,7 @@ ghost use lib.ListN.{length, take};
 ghost use Rattle.table.specs.Table.{records, rootOf, chain as chainOf, Chained};
 ghost use Rattle.table.specs.Trees.{trees};
 ghost use Rattle.table.specs.Refusal.{fault};
-ghost use Rattle.measure.specs.inner.Sized.{Sized};
+ghost use Rattle.roles.specs.inner.Sized.{Sized};
 ghost use Rattle.drawing.specs.Answer.{storeAll};
 ghost use Rattle.drawing.specs.inner.Placing.{Led};
 ghost use Rattle.wide.specs.Wide.{drawWide, said, wideOf, widePlacedIn};

@@ -14,9 +14,9 @@ use Rattle.layout.specs.Spine.{SpineNode, Role, knee, ordinary, switch}
 use Rattle.layout.specs.Drawing.{Rest}
 use Rattle.layout.specs.Trees.{drawTrees, widthOf, heightOf}
 use Rattle.layout.specs.inner.Held.{inwards, hungOn, heightOn, widthOn, spineOn, lay, bottom, Inside, Rooms}
-use Rattle.measure.specs.inner.Sized.{Named, Sized}
-use Rattle.measure.specs.Chosen.{sideOf}
-use Rattle.measure.specs.inner.Prepared.{Prepared, Along}
+use Rattle.roles.specs.inner.Sized.{Named, Sized}
+use Rattle.roles.specs.Chosen.{sideOf}
+use Rattle.roles.specs.inner.Prepared.{Prepared, Along}
 use Rattle.drawing.specs.declared.place.Walk.{Walk}
 use Rattle.drawing.specs.Answer.{store, storeAll}
 

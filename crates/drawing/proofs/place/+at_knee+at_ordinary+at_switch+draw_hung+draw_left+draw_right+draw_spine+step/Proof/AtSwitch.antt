@@ -3,7 +3,7 @@ use mathlib.Core.Path.{_∙_}
 use Prim.Native.Nat.{ℕ, _+_}
 use borrow.Author.Needs.{needs}
 use native.Mathlib.Omega.{arith}
-use Rattle.measure.proofs.Forks.{named-within}
+use Rattle.roles.proofs.Forks.{named-within}
 use Rattle.drawing.proofs.Walking.{entry-within, given-kept, hanging-as, column-switch, widest-at-switch, rows-at-switch, hanging-switch, hanging-pending, next-role, next-below, after-switch}
 use Rattle.drawing.proofs.place.at_switch.Reads as reads
 use Rattle.drawing.proofs.place.+at_knee+at_ordinary+at_switch+draw_hung+draw_left+draw_right+draw_spine+step.Lts-at_switch as lts

@@ -4,7 +4,7 @@ use Prim.Native.Nat.{ℕ}
 use native.Mathlib.Omega.{arith}
 use native.Mathlib.Nat.{pos-of-ne-zero}
 use Rattle.table.specs.Tree.{size, treeAt}
-use Rattle.measure.proofs.Forks.{named-within}
+use Rattle.roles.proofs.Forks.{named-within}
 use Rattle.drawing.proofs.Walking.{size-none, given-kept}
 use Rattle.drawing.proofs.Starting.{root-below, going-start, hung-start, hanging-end, SoFar, walked-start, walked-on, walked-end}
 use Rattle.drawing.proofs.place.draw_spine.Reads as reads

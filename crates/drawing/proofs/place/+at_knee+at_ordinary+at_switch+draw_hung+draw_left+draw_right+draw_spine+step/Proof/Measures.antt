@@ -28,15 +28,15 @@ use Rattle.drawing.proofs.place.+at_knee+at_ordinary+at_switch+draw_hun
 use Rattle.drawing.proofs.place.step.Reads as step
 use Rattle.drawing.proofs.place.step.Kinds as step-kinds
 use Rattle.drawing.proofs.place.+at_knee+at_ordinary+at_switch+draw_hung+draw_left+draw_right+draw_spine+step.Lts-step as step-lts
-use Rattle.measure.proofs.fork_at.Reads as fork-at-reads
-use Rattle.measure.proofs.most.Reads as most-reads
+use Rattle.roles.proofs.fork_at.Reads as fork-at-reads
+use Rattle.roles.proofs.most.Reads as most-reads
 use Rattle.drawing.proofs.place.inwards.Reads as inwards-reads
 use Rattle.drawing.proofs.place.is_far.Reads as is-far-reads
-use Rattle.measure.proofs.roles.is_knee.Reads as is-knee-reads
-use Rattle.measure.proofs.roles.is_right_at.Reads as is-right-at-reads
-use Rattle.measure.proofs.roles.is_switch.Reads as is-switch-reads
+use Rattle.roles.proofs.role.is_knee.Reads as is-knee-reads
+use Rattle.roles.proofs.role.is_right_at.Reads as is-right-at-reads
+use Rattle.roles.proofs.role.is_switch.Reads as is-switch-reads
 use Rattle.drawing.proofs.place.onward.Reads as onward-reads
-use Rattle.measure.proofs.roles.role_at.Reads as role-at-reads
+use Rattle.roles.proofs.role.role_at.Reads as role-at-reads
 use Rattle.drawing.proofs.place.set_point.Reads as set-point-reads
 
 abbrev pub μ-at-knee : Measures 5 at-knee-kinds.ps ℕ

@@ -4,9 +4,9 @@ use Prim.Native.Nat.{ℕ}
 use borrow.Author.Needs.{needs}
 use native.Mathlib.Omega.{arith}
 use Rattle.layout.specs.Spine.{knee, ordinary, switch}
-use Rattle.measure.specs.inner.Roles.{roleOf}
-use Rattle.measure.proofs.Forks.{named-within}
-use Rattle.measure.proofs.Choices.{switch-is}
+use Rattle.roles.specs.inner.Roles.{roleOf}
+use Rattle.roles.proofs.Forks.{named-within}
+use Rattle.roles.proofs.Choices.{switch-is}
 use Rattle.drawing.proofs.Starting.{named-node}
 use Rattle.drawing.proofs.Walking.{knee-is, ordinary-is, role-below, going-as, stepped-for}
 use Rattle.drawing.proofs.place.step.Reads as reads
