@@ -13,10 +13,10 @@ use Rattle.table.specs.Tree.{Tree, size, treeAt}
 use Rattle.table.specs.Trees.{roots, trees, nodesOf}
 use Rattle.table.specs.Refusal.{fault}
 use Rattle.table.proofs.Chain.{length-trees}
-use Rattle.table.proofs.Scan.{member-at}
+use Rattle.records.proofs.Scan.{member-at}
 use Rattle.table.proofs.Causes.{roots-chained}
 use Rattle.table.proofs.Accepted.{records-bounds, chain-within, nodes-length, size-below, size-node}
-use Rattle.table.proofs.Children.{children-length}
+use Rattle.records.proofs.Children.{children-length}
 use Rattle.layout.specs.Layout.{Layout, width, height, shift}
 use Rattle.layout.specs.Spine.{facing}
 use Rattle.layout.specs.Drawing.{draw}

@@ -11,8 +11,8 @@ use Rattle.table.specs.Table.{records, rootOf, chain}
 use Rattle.table.specs.Tree.{Tree, none, size, treeAt}
 use Rattle.table.specs.Trees.{roots, trees, nodesOf}
 use Rattle.table.specs.Refusal.{fault, refusal}
-use Rattle.table.specs.declared.Reading.{Reading}
-use Rattle.table.specs.inner.Reading.{Read, ReadOf}
+use Rattle.records.specs.declared.Reading.{Reading}
+use Rattle.records.specs.inner.Reading.{Read, ReadOf}
 use Rattle.table.proofs.Lists.{within-one, length-within}
 use Rattle.table.proofs.Accepted.{refusal-none, tree-none, records-bounds, chain-length, root, nodes-length}
 use Rattle.layout.specs.Layout.{width, height, shift}

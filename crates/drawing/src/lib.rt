@@ -4,7 +4,7 @@ mod place;
 use crate::place::draw_tree;
 use roles::most;
 use roles::prepare;
-use table::read;
+use records::read;
 ghost use mathlib.Core.Path.{_≡_};
 ghost use Prim.Native.Nat.{_*_, _≤_};
 ghost use lib.ListN.{length};

@@ -7,7 +7,7 @@ use lib.Dec.{T}
 use lib.ListN.{length, getD, take, drop}
 use lib.Seq.{length-take-le, drop-cons, drop-length, getD-take}
 use Rattle.table.specs.Lists.{member}
-use Rattle.table.proofs.Scan.{member-at}
+use Rattle.records.proofs.Scan.{member-at}
 use Rattle.mirror.specs.Exchanged.{each}
 
 -- f is done, from l₀ to l, at the first i of the first n records of the list.

@@ -1,7 +1,7 @@
 // Left and right, and column and row, exchanged at listed records.
-use table::words::left;
-use table::words::right;
-use table::writing::set_word;
+use records::words::left;
+use records::words::right;
+use records::writing::set_word;
 ghost use mathlib.Core.Path.{_≡_};
 ghost use Prim.Native.Nat.{ℕ, _+_, _*_, _≤_, _<_};
 ghost use lib.Dec.{T};

@@ -12,11 +12,11 @@ use Rattle.table.specs.Lists.{member}
 use Rattle.table.specs.Table.{Side, left, right, records, leftOf, rightOf, linkOf, rootOf, chain, Chained, Line}
 use Rattle.table.specs.Trees.{links, roots}
 use Rattle.table.specs.Refusal.{fault}
-use Rattle.table.specs.inner.Steps.{present}
+use Rattle.records.specs.inner.Steps.{present}
 use Rattle.table.proofs.Lists.{member-cons}
 use Rattle.table.proofs.Accepted.{records-bounds, chain-within, link-within}
-use Rattle.table.proofs.Scan.{places-differ}
-use Rattle.table.proofs.Children.{children, children-distinct, children-length}
+use Rattle.records.proofs.Scan.{places-differ}
+use Rattle.records.proofs.Children.{children, children-distinct, children-length}
 use Rattle.pen.specs.declared.lines.Ends.{Ends}
 use Rattle.pen.specs.Lines.{lineTo, linesFrom, lines, lineAt}
 

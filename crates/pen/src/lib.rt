@@ -6,7 +6,7 @@ pub mod strokes;
 use crate::lines::line;
 use crate::strokes::Stroke;
 use crate::strokes::choose;
-use table::trace;
+use records::trace;
 ghost use mathlib.Core.Path.{_≡_};
 ghost use Rattle.pen.specs.Strokes.{told, strokeOf};
 

@@ -1,12 +1,12 @@
 // The lines of a table, by parent in the order of the chain, left first.
-use table::words::index;
-use table::words::left;
-use table::words::right;
+use records::words::index;
+use records::words::left;
+use records::words::right;
 ghost use mathlib.Core.Path.{_≡_};
 ghost use mathlib.Core.List.{List, _++_};
 ghost use Prim.Native.Nat.{_<_};
 ghost use Rattle.table.specs.Table.{records, leftOf, rightOf};
-ghost use Rattle.table.specs.inner.Reading.{Nodes};
+ghost use Rattle.records.specs.inner.Reading.{Nodes};
 ghost use Rattle.pen.specs.Lines.{lineTo, lines as linesOf, lineAt};
 ghost use Rattle.pen.specs.inner.Steps.{after};
 

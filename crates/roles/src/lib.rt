@@ -5,8 +5,8 @@ pub mod role;
 mod survey;
 
 use crate::hung::measure_left;
-use table::words::left;
-use table::words::right;
+use records::words::left;
+use records::words::right;
 ghost use mathlib.Core.Path.{_≡_};
 ghost use mathlib.Core.Bool.{cond};
 ghost use Prim.Native.Nat.{max};

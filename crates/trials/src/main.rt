@@ -47,7 +47,7 @@ use line::start;
 use pen::strokes::Stroke;
 use segment::meeting::Meeting;
 use segment::meeting::compare;
-use table::writing::copy;
+use records::writing::copy;
 use wide::Wide;
 ghost use mathlib.Core.Path.{_≡_};
 ghost use Prim.Native.Nat.{_<_, _≤_};

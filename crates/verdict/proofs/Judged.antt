@@ -18,7 +18,7 @@ use Rattle.sort.proofs.Rearranging.{any-one, any-two}
 use Rattle.line.specs.inner.Line.{startOf, endOf, last}
 use Rattle.sweep.specs.inner.Meetings.{grade, Worst}
 use Rattle.sweep.proofs.Grades.{clash-graded}
-use Rattle.table.specs.inner.Reading.{Nodes}
+use Rattle.records.specs.inner.Reading.{Nodes}
 use Rattle.verdict.specs.Conditions.{SamePoint, ChildAbove, OutOfOrder}
 use Rattle.verdict.specs.Verdict.{numbered, FirstOf, conditions}
 use Rattle.verdict.specs.inner.Steps.{LinesOf, Rises, Two, lineConditions, worstVerdict}

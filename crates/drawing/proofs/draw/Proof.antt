@@ -1,7 +1,7 @@
 -- `draw` meets its contract: the drawer's whole answer, for all bytes and placements.
 use mathlib.Core.Path.{refl, sym, _∙_}
 use borrow.Author.Needs.{needs}
-use Rattle.table.proofs.Zeros.{blank}
+use Rattle.records.proofs.Zeros.{blank}
 use Rattle.table.proofs.Accepted.{some-root}
 use Rattle.drawing.proofs.Whole.{sizes-listed, roots-lead, read-accepted, nothing-drawn, refusal-drawn, plan-answered}
 use Rattle.drawing.proofs.draw.Statement.{statement}

@@ -6,9 +6,9 @@ use lib.ListN.{length}
 use borrow.Author.Needs.{needs}
 use Rattle.table.specs.Table.{records}
 use Rattle.table.specs.Refusal.{fault, refusal}
-use Rattle.table.proofs.Zeros.{blank}
+use Rattle.records.proofs.Zeros.{blank}
 use Rattle.table.proofs.Accepted.{refusal-none}
-use Rattle.table.proofs.Nodes.{nodes-of}
+use Rattle.records.proofs.Nodes.{nodes-of}
 use Rattle.pen.specs.declared.lines.Ends.{Ends}
 use Rattle.pen.specs.declared.strokes.Stroke.the-variants.{Refused}
 use Rattle.pen.specs.Strokes.{told}

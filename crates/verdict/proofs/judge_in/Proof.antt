@@ -3,7 +3,7 @@ use mathlib.Core.Path.{refl}
 use mathlib.Core.Logic.{inl, inr}
 use native.Mathlib.Omega.{arith}
 use Rattle.segment.proofs.Answers.{holds, fails}
-use Rattle.table.proofs.Nodes.{nodes-few}
+use Rattle.records.proofs.Nodes.{nodes-few}
 use Rattle.verdict.proofs.Places.{order-says}
 use Rattle.verdict.proofs.Judged.{some-fault, no-fault}
 use borrow.Author.Needs.{needs}

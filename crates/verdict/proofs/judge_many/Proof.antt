@@ -1,6 +1,6 @@
 -- `judge_many`: a table has at most 4,096 nodes. Rests on the laws of a listed chain.
 use native.Mathlib.Omega.{arith}
-use Rattle.table.proofs.Nodes.{nodes-few}
+use Rattle.records.proofs.Nodes.{nodes-few}
 use borrow.Author.Needs.{needs}
 use Rattle.verdict.proofs.judge_many.Statement.{statement}
 use Rattle.verdict.proofs.judge_many.Tie as tie

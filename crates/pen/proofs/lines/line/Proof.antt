@@ -6,8 +6,8 @@ use native.Mathlib.Omega.{arith}
 use lib.ListN.{drop}
 use borrow.Author.Needs.{needs}
 use Rattle.table.specs.Table.{chain as chainOf}
-use Rattle.table.proofs.Scan.{taken-at}
-use Rattle.table.proofs.Nodes.{node-below}
+use Rattle.records.proofs.Scan.{taken-at}
+use Rattle.records.proofs.Nodes.{node-below}
 use Rattle.pen.specs.declared.lines.Ends.{Ends}
 use Rattle.pen.specs.declared.lines.Step.{Step}
 use Rattle.pen.specs.Lines.{linesFrom, lines, lineAt}
