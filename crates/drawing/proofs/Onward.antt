@@ -13,7 +13,7 @@ use Rattle.table.specs.Tree.{Tree, none, node}
 use Rattle.layout.specs.Layout.{Layout}
 use Rattle.layout.specs.Spine.{SpineNode, hangs, Role, knee, ordinary, switch, opposite, seen, runRole, roleAfter, handAfter}
 use Rattle.layout.specs.Drawing.{Rest, join}
-use Rattle.layout.specs.inner.Entries.{withPoint}
+use Rattle.placements.specs.Placements.{withPoint}
 use Rattle.layout.specs.inner.Held.{inwards, hungOn, heightOn, widthOn, roleNext, far, lay, bottom, Inside, GoesOn, Rooms, knee-room, ordinary-room, switch-room}
 use Rattle.layout.proofs.Spines.{spineTree}
 use Rattle.layout.proofs.Sides.{shape-hung, hung-none, height-none, width-none}

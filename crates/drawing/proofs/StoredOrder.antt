@@ -12,7 +12,7 @@ use Rattle.table.specs.Table.{Side, left, right}
 use Rattle.table.proofs.Lists.{same-one}
 use Rattle.layout.specs.Layout.{Layout, blank, placed}
 use Rattle.layout.specs.Drawing.{join}
-use Rattle.layout.proofs.Entries.{pair}
+use Rattle.placements.proofs.Points.{pair}
 use Rattle.drawing.specs.Answer.{store}
 use Rattle.drawing.proofs.StoredPoints.{times, times-placed}
 

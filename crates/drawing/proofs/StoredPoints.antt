@@ -17,8 +17,8 @@ use Rattle.table.proofs.Chain.{count-node}
 use Rattle.layout.specs.Layout.{Layout, blank, placed}
 use Rattle.layout.proofs.Clean.{Node, root, below, point, recordOf}
 use Rattle.layout.proofs.Rows.{shape}
-use Rattle.layout.specs.inner.Entries.{pointAt}
-use Rattle.layout.proofs.Entries.{pair, pair-point}
+use Rattle.placements.specs.Placements.{pointOf}
+use Rattle.placements.proofs.Points.{pair, pair-point}
 use Rattle.drawing.specs.Answer.{store}
 
 -- How often a layout has the record k.
@@ -55,13 +55,13 @@ store-kept (placed k P a b) p i out =
     here = out k (omega (arith, times-placed k k P a b, same-one k k refl))
 
 -- The entries of a record that the layout does not have.
-pub kept-point : (L : Layout) (p : List ℕ) (j : ℕ) → times j L ≡ 0 → pointAt (store L p) j ≡ pointAt p j
+pub kept-point : (L : Layout) (p : List ℕ) (j : ℕ) → times j L ≡ 0 → pointOf (store L p) j ≡ pointOf p j
 kept-point L p j none = ap₂ at (store-kept L p (2 * j) (λ k h. (λ e. other k h (omega arith), λ e. omega arith))) (store-kept L p (2 * j + 1) (λ k h. (λ e. omega arith, λ e. other k h (omega arith))))
   where
     other : (k : ℕ) → 1 ≤ times k L → j ≡ k → ⊥
     other k h e = omega (arith, ap (λ (n : ℕ). times n L) e)
 
-pub store-point : (L : Layout) (p : List ℕ) → ((k : ℕ) → times k L ≤ 1) → ((k : ℕ) → 1 ≤ times k L → 2 * k + 1 < length p) → (n : Node L) → pointAt (store L p) (recordOf n) ≡ point n
+pub store-point : (L : Layout) (p : List ℕ) → ((k : ℕ) → times k L ≤ 1) → ((k : ℕ) → 1 ≤ times k L → 2 * k + 1 < length p) → (n : Node L) → pointOf (store L p) (recordOf n) ≡ point n
 unfolding store
 store-point (placed k P a b) p once room root =
     kept-point b (store a (pair p k P)) k (omega (arith, once k, times-placed k k P a b, same-one k k refl)) ∙

@@ -13,7 +13,7 @@ use Rattle.table.proofs.Chain.{count-trees}
 use Rattle.layout.specs.Layout.{Layout, height}
 use Rattle.layout.specs.Drawing.{draw}
 use Rattle.layout.specs.Trees.{drawFrom}
-use Rattle.layout.specs.inner.Entries.{pointAt}
+use Rattle.placements.specs.Placements.{pointOf}
 use Rattle.layout.proofs.Clean.{recordOf}
 use Rattle.layout.proofs.Stacked.{AgreesAll, count-below}
 use Rattle.drawing.specs.Answer.{store, storeAll}
@@ -40,12 +40,12 @@ stored-kept [] p i out = refl
 stored-kept (L ∷ Ls) p i out = stored-kept Ls (store L p) i (λ k h. out k (omega arith)) ∙ store-kept L p i (λ k h. out k (omega arith))
 
 -- The entries of a record that the layouts do not have.
-pub stored-point-kept : (Ls : List Layout) (p : List ℕ) (j : ℕ) → timesIn j Ls ≡ 0 → pointAt (storeAll Ls p) j ≡ pointAt p j
+pub stored-point-kept : (Ls : List Layout) (p : List ℕ) (j : ℕ) → timesIn j Ls ≡ 0 → pointOf (storeAll Ls p) j ≡ pointOf p j
 unfolding storeAll timesIn
 stored-point-kept [] p j none = refl
 stored-point-kept (L ∷ Ls) p j none = stored-point-kept Ls (store L p) j (omega arith) ∙ kept-point L p j (omega arith)
 
-pub stored-points : (Ls : List Layout) (p : List ℕ) → ((k : ℕ) → timesIn k Ls ≤ 1) → ((k : ℕ) → 1 ≤ timesIn k Ls → 2 * k + 1 < length p) → AgreesAll (pointAt (storeAll Ls p)) Ls
+pub stored-points : (Ls : List Layout) (p : List ℕ) → ((k : ℕ) → timesIn k Ls ≤ 1) → ((k : ℕ) → 1 ≤ timesIn k Ls → 2 * k + 1 < length p) → AgreesAll (pointOf (storeAll Ls p)) Ls
 unfolding storeAll timesIn
 stored-points [] p once room = tt
 stored-points (L ∷ Ls) p once room = (

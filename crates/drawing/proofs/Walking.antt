@@ -13,7 +13,7 @@ use Rattle.table.specs.Refusal.{fault}
 use Rattle.table.proofs.Lists.{same}
 use Rattle.table.proofs.Accepted.{tree-none, tree-unfolds, records-bounds, chain-within}
 use Rattle.layout.specs.Spine.{SpineNode, hangs, Role, knee, ordinary, switch, opposite, handAfter}
-use Rattle.layout.specs.inner.Entries.{withPoint}
+use Rattle.placements.specs.Placements.{withPoint}
 use Rattle.layout.specs.inner.Held.{inwards, hungOn, heightOn, spineOn, roleNext, far, bottom, Inside, GoesOn}
 use Rattle.layout.proofs.Spines.{over, spineTree, spine-either, tree-spine, count-over}
 use Rattle.layout.proofs.Held.{inside-less}

@@ -1,21 +1,23 @@
 -- The drawer's whole answer for any bytes and placements: refusal, plan, and every placement afterwards (document 01, "The rack table", "How the contracts bind"; document 02, Paper 8).
 use mathlib.Core.Bool.{true, false}
 use mathlib.Core.List.{List, [], _∷_}
-use Prim.Native.Nat.{ℕ, _+_, _*_}
+use Prim.Native.Nat.{ℕ}
 use lib.Dec.{eqb}
-use lib.ListN.{length, set}
+use lib.ListN.{length}
+use Rattle.placements.specs.Placements.{withPoint}
 use Rattle.table.specs.Table.{chain}
 use Rattle.table.specs.Trees.{trees}
 use Rattle.table.specs.Refusal.{refusal}
+use Rattle.table.specs.Said.{keptOnRefusal}
 use Rattle.layout.specs.Layout.{Layout, blank, placed}
 use Rattle.layout.specs.Trees.{drawTrees, widthOf, heightOf}
 use Rattle.drawing.specs.declared.Plan.{Plan}
 use Rattle.drawing.specs.declared.Drawn.{Drawn}
 
--- "record k has its column at place 2k and its row at 2k + 1. The drawer writes only the entries of chained boxes."
+-- "The drawer writes only the entries of chained boxes": the point of each node of a drawing
 unfoldable pub store : Layout → List ℕ → List ℕ
 store blank p = p
-store (placed k P a b) p = store b (store a (set (set p (2 * k) (P .column)) (2 * k + 1) (P .row)))
+store (placed k P a b) p = store b (store a (withPoint k (P .column) (P .row) p))
 
 -- Several drawings, one after the other.
 unfoldable pub storeAll : List Layout → List ℕ → List ℕ
@@ -36,4 +38,4 @@ drawnOf t p = elim (eqb (refusal t (length p)) 0) [ true ↦ record { refusal = 
 
 -- Every placement afterwards: all kept on a refusal.
 unfoldable pub placedIn : List ℕ → List ℕ → List ℕ
-placedIn t p = elim (eqb (refusal t (length p)) 0) [ true ↦ storeAll (drawTrees (trees t)) p | false ↦ p ]
+placedIn t p = keptOnRefusal (refusal t (length p)) (storeAll (drawTrees (trees t)) p) p

@@ -1,5 +1,6 @@
 // Placing (document 004, Steps 5 and 6, and the drawings of Step 3; document 01, steps 1 and 3 to 8): the points of a drawing, in the columns and rows of the whole plan, stored among the placements.
 // The roles and W of each spine are handed over and only read; placing chooses none. "004" and "01" below are these documents, whose steps have numbers of their own.
+use placements::set_point;
 use roles::Fork;
 use roles::fork_at;
 use roles::most;
@@ -13,7 +14,6 @@ ghost use lib.ListN.{length};
 ghost use Rattle.table.specs.Table.{left, right};
 ghost use Rattle.table.specs.Tree.{treeAt};
 ghost use Rattle.layout.specs.Spine.{Role as LayoutRole, knee, ordinary, switch};
-ghost use Rattle.layout.specs.inner.Entries.{withPoint};
 ghost use Rattle.layout.specs.inner.Held.{inwards as inwardsOf, far, Inside};
 ghost use Rattle.roles.specs.Chosen.{sideOf, Handed};
 ghost use Rattle.roles.specs.inner.Forked.{Forked};
@@ -45,16 +45,6 @@ fn is_far(right: bool, hung_right: bool) -> bool
     ensures { λ r. ⌜ r ≡ far (sideOf right) (sideOf «hung_right») ⌝ }
 {
     if right { !hung_right } else { hung_right }
-}
-
-fn set_point(points: &mut [u16], k: usize, column: usize, row: usize)
-    requires { ⌜ 2 * k + 1 < length (now points) ⌝ }
-    requires { ⌜ (column < 65536) × (row < 65536) ⌝ }
-    ensures { λ _. ⌜ now (points .exit) ≡ withPoint k column row (now (points .entry)) ⌝ }
-{
-    let place = 2 * k;
-    points[place] = column as u16;
-    points[place + 1] = row as u16;
 }
 
 // The walk at the next node, on the same hand.

@@ -22,7 +22,7 @@ use Rattle.drawing.proofs.Elsewhere.{as-many, drawn-chained}
 use Rattle.drawing.proofs.StoredTrees.{timesIn, times-trees, stored-points}
 use Rattle.drawing.proofs.Whole.{no-trees}
 use Rattle.drawing.proofs.Answered.{Accepted, accepted, drawn-refusal}
-use Rattle.verdict.specs.Points.{pointOf}
+use Rattle.placements.specs.Placements.{pointOf}
 use Rattle.verdict.specs.Conditions.{SamePoint, ChildAbove, Clashing, OutOfOrder}
 use Rattle.verdict.specs.Verdict.{FirstOf, conditions, Verdict}
 use Rattle.verdict.proofs.Clashes.{cross→clash}

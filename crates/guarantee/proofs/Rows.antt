@@ -25,7 +25,7 @@ use Rattle.drawing.proofs.Elsewhere.{drawn-chained}
 use Rattle.drawing.proofs.StoredPoints.{times-node}
 use Rattle.drawing.proofs.StoredTrees.{timesIn}
 use Rattle.drawing.proofs.Answered.{accepted, drawn-refusal}
-use Rattle.verdict.specs.Points.{pointOf}
+use Rattle.placements.specs.Placements.{pointOf}
 use Rattle.guarantee.specs.Rows.{NoSharedRows, UnderRuler, NoGaps}
 use Rattle.guarantee.proofs.TreeNodes.{among-at}
 use Rattle.guarantee.proofs.Demand3.{agrees}

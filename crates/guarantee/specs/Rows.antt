@@ -9,7 +9,7 @@ use Rattle.table.specs.Tree.{Tree, treeAt}
 use Rattle.table.specs.Trees.{roots}
 use Rattle.layout.specs.Rectangle.{DrawnIn, OccupiesRow, SpinesApart, Beneath}
 use Rattle.drawing.specs.Answer.{drawnOf, placedIn}
-use Rattle.verdict.specs.Points.{pointOf}
+use Rattle.placements.specs.Placements.{pointOf}
 
 -- "For every spine in a plain plan": of each tree, with k for its root
 abbrev pub NoSharedRows : (t p : List ℕ) → Type 0

@@ -1,5 +1,5 @@
 -- The laws of the drawing. What is promised: Clean, Theorem, Records. The geometry: Points to Along. The rows: Rows, Heights. From a spine to the tree: Spines, Whole.
--- The form that the drawer's code follows: Sides, Held, Width. Placements by record: Entries. Several trees: Stacked. No shared rows: Shown, Apart, EverySpine, OnSpine, Ruler.
+-- The form that the drawer's code follows: Sides, Held, Width. Several trees: Stacked. No shared rows: Shown, Apart, EverySpine, OnSpine, Ruler.
 pub mod Clean
 pub mod Points
 pub mod Meet
@@ -15,7 +15,6 @@ pub mod Records
 pub mod Sides
 pub mod Held
 pub mod Width
-pub mod Entries
 pub mod Stacked
 pub mod Shown
 pub mod Apart

@@ -1,7 +1,7 @@
 -- The exchanged table and the exchanged placements (document 02, Papers 1 and 13): left and right, and column and row, of each chained node.
 use mathlib.Core.List.{List, [], _∷_}
-use Prim.Native.Nat.{ℕ, _+_, _*_}
-use lib.ListN.{getD, set}
+use Prim.Native.Nat.{ℕ}
+use Rattle.placements.specs.Placements.{columnOf, rowOf, withPoint}
 use Rattle.table.specs.Table.{leftOf, rightOf, chain}
 use Rattle.table.specs.Writing.{withWord}
 
@@ -11,7 +11,7 @@ exchangeLinks k t = withWord k 2 (leftOf t k) (withWord k 1 (rightOf t k) t)
 
 -- Column and row of record k exchanged.
 unfoldable pub exchangePoint : ℕ → List ℕ → List ℕ
-exchangePoint k p = set (set p (2 * k) (getD p (2 * k + 1) 0)) (2 * k + 1) (getD p (2 * k) 0)
+exchangePoint k p = withPoint k (rowOf p k) (columnOf p k) p
 
 -- At each of the given records, one after the other.
 unfoldable pub each : (ℕ → List ℕ → List ℕ) → List ℕ → List ℕ → List ℕ

@@ -1,11 +1,12 @@
 -- The strokes of a table with placements, and the whole answer of the call (document 02, Paper 2).
 use mathlib.Core.Bool.{cond}
 use mathlib.Core.List.{List, [], _∷_}
-use Prim.Native.Nat.{ℕ, zero, suc, _+_, _*_}
+use Prim.Native.Nat.{ℕ, zero, suc, _*_}
 use lib.Dec.{eqb}
 use lib.ListN.{length, getD}
 use lib.Ieee.{Float}
-use Rattle.table.specs.Refusal.{refusal}
+use Rattle.placements.specs.Placements.{columnOf, rowOf}
+use Rattle.table.specs.Refusal.{refusal, orElse}
 use Rattle.table.specs.Said.{Said}
 use Rattle.pen.specs.declared.lines.Ends.{Ends}
 use Rattle.pen.specs.declared.points.PenPoint.{PenPoint}
@@ -14,9 +15,9 @@ use Rattle.pen.specs.declared.strokes.Stroke.the-variants.{Lift, Draw, D
 use Rattle.pen.specs.Quarter.{quarterOf}
 use Rattle.pen.specs.Lines.{lines}
 
--- "A coordinate is column or row times pitch, divided by 4": of record k, which "has its column at place 2k and its row at 2k + 1"
+-- "A coordinate is column or row times pitch, divided by 4": of record k
 abbrev pub penAt : List ℕ → ℕ → ℕ → PenPoint
-penAt p pitch k = record { x = quarterOf (getD p (2 * k) 0 * pitch) .float; y = quarterOf (getD p (2 * k + 1) 0 * pitch) .float }
+penAt p pitch k = record { x = quarterOf (columnOf p k * pitch) .float; y = quarterOf (rowOf p k * pitch) .float }
 
 -- "Each line gives a lift to the parent and then a draw to the child"
 unfoldable pub strokes : List ℕ → ℕ → List Ends → List Stroke
@@ -25,7 +26,7 @@ strokes p pitch (l ∷ ls) = Lift (penAt p pitch (l .parent)) ∷ Draw (penAt p 
 
 -- "Answers: 7 for pitch 0, after 6"; 0 is no refusal
 unfoldable pub strokeRefusal : List ℕ → ℕ → ℕ → ℕ
-strokeRefusal t places pitch = cond (eqb (refusal t places) 0) (cond (eqb pitch 0) 7 0) (refusal t places)
+strokeRefusal t places pitch = orElse (refusal t places) (cond (eqb pitch 0) 7 0)
 
 -- What an answer says: a refusal its number alone; otherwise 0 for done, 1 for a lift, 2 for a draw; and of a lift or a draw the point, column and row.
 pub record Told : Type 0 where

@@ -1,9 +1,10 @@
 -- The text for a table (document 01, the last part of "Sheets worked by hand"). Bytes are ASCII: 48 is the digit 0, 32 the space, 10 the line feed.
 use mathlib.Core.Bool.{true, false, cond}
 use mathlib.Core.List.{List, [], _∷_, _++_}
-use Prim.Native.Nat.{ℕ, zero, suc, _+_, _*_, _/_, _%_}
+use Prim.Native.Nat.{ℕ, zero, suc, _+_, _/_, _%_}
 use lib.Dec.{ltb, eqb}
-use lib.ListN.{getD, replicate}
+use lib.ListN.{replicate}
+use Rattle.placements.specs.Placements.{columnOf, rowOf}
 use Rattle.table.specs.Table.{tagOf, chain}
 use Rattle.drawing.specs.declared.Plan.{Plan}
 use Rattle.drawing.specs.declared.Drawn.{Drawn}
@@ -27,9 +28,9 @@ fields (n ∷ ns) = 32 ∷ (decimal n ++ fields ns)
 unfoldable pub planLine : Plan → List ℕ
 planLine d = 112 ∷ 108 ∷ 97 ∷ 110 ∷ fields (d .nodes ∷ d .width ∷ d .height ∷ [])
 
--- "record, column, row, tag": the line of record k, which "has its column at place 2k and its row at 2k + 1"
+-- "record, column, row, tag": the line of record k
 unfoldable pub nodeLine : List ℕ → List ℕ → ℕ → List ℕ
-nodeLine t p k = decimal k ++ fields (getD p (2 * k) 0 ∷ getD p (2 * k + 1) 0 ∷ tagOf t k ∷ [])
+nodeLine t p k = decimal k ++ fields (columnOf p k ∷ rowOf p k ∷ tagOf t k ∷ [])
 
 -- "then one line a box in chain order"
 unfoldable pub nodeLines : List ℕ → List ℕ → List ℕ → List ℕ

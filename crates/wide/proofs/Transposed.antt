@@ -20,8 +20,8 @@ use Rattle.layout.specs.Layout.{Layout, blank, placed, width, height}
 use Rattle.layout.specs.Trees.{drawTrees, widthOf, heightOf}
 use Rattle.layout.proofs.Rows.{shape}
 use Rattle.drawing.specs.Answer.{store, storeAll}
-use Rattle.layout.specs.inner.Entries.{pointAt}
-use Rattle.layout.proofs.Entries.{pair, pair-length, pair-point, pair-other, same-points}
+use Rattle.placements.specs.Placements.{pointOf}
+use Rattle.placements.proofs.Points.{pair, pair-length, pair-point, pair-other, same-points}
 use Rattle.drawing.proofs.StoredPoints.{times, times-placed, store-length}
 use Rattle.drawing.proofs.StoredTrees.{timesIn, times-trees, stored-length, stored-point-kept}
 use Rattle.mirror.specs.Exchanged.{exchangePoint, each, exchangedPlacements}
@@ -45,7 +45,7 @@ shape-transposed (placed k P a b) = ap₂ (node k) (shape-transposed a) (shape-t
 
 -- The points of the placements q are those of p, transposed, at the record k.
 abbrev Turned : ℕ → List ℕ → List ℕ → Type 0
-Turned k p q = pointAt q k ≡ transpose (pointAt p k)
+Turned k p q = pointOf q k ≡ transpose (pointOf p k)
 
 -- Storing a layout and its transposition turns the point of each of its records, and leaves any other turned.
 store-turned : (k : ℕ) (L : Layout) (p q : List ℕ) → length q ≡ length p → 2 * k + 1 < length p → (times k L ≡ 0 → Turned k p q) → Turned k (store L p) (store (transposed L) q)
@@ -94,7 +94,7 @@ module _ (t p : List ℕ) (ok : fault t ≡ 0) (long : 2 * records t ≤ length 
   abbrev layouts : List Layout
   layouts = drawTrees (trees t)
 
-  turned-at : (k : ℕ) (b : Bool) → member k (chain t) ≡ b → pointAt (each exchangePoint (chain t) (storeAll layouts p)) k ≡ pointAt (storeAll (map transposed layouts) p) k
+  turned-at : (k : ℕ) (b : Bool) → member k (chain t) ≡ b → pointOf (each exchangePoint (chain t) (storeAll layouts p)) k ≡ pointOf (storeAll (map transposed layouts) p) k
   turned-at k true e =
       let c = T-true (member k (chain t)) .1 e in
       let room : 2 * k + 1 < length p = omega (arith, long, chain-within t ok k c .1) in

@@ -1,15 +1,13 @@
 -- The wide plan and the whole answer of its call, for any bytes and placements (document 02, Papers 1 and 8; document 004, Corollary 1).
-use mathlib.Core.Bool.{true, false}
 use mathlib.Core.List.{List, [], _∷_, map}
 use Prim.Native.Nat.{ℕ}
-use lib.Dec.{eqb}
 use lib.ListN.{length}
 use Rattle.segment.specs.Segment.{at}
 use Rattle.table.specs.Table.{chain}
 use Rattle.table.specs.Tree.{Tree}
 use Rattle.table.specs.Trees.{trees}
 use Rattle.table.specs.Refusal.{refusal}
-use Rattle.table.specs.Said.{Said, answered}
+use Rattle.table.specs.Said.{Said, answered, keptOnRefusal}
 use Rattle.layout.specs.Layout.{Layout, blank, placed, mirror}
 use Rattle.layout.specs.Trees.{drawTrees, widthOf, heightOf}
 use Rattle.drawing.specs.Answer.{storeAll}
@@ -36,4 +34,4 @@ wideOf t p = answered (refusal t (length p)) (length (chain t) ∷ widthOf (draw
 
 -- Every placement afterwards: all kept on a refusal.
 unfoldable pub widePlacedIn : List ℕ → List ℕ → List ℕ
-widePlacedIn t p = elim (eqb (refusal t (length p)) 0) [ true ↦ storeAll (drawWide (trees t)) p | false ↦ p ]
+widePlacedIn t p = keptOnRefusal (refusal t (length p)) (storeAll (drawWide (trees t)) p) p

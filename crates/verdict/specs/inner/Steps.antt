@@ -16,7 +16,7 @@ use Rattle.line.specs.inner.Line.{startOf, endOf, last}
 use Rattle.table.specs.Lists.{member}
 use Rattle.table.specs.Table.{Side, records, leftOf, rightOf, linkOf, Line}
 use Rattle.table.specs.Trees.{roots}
-use Rattle.verdict.specs.Points.{pointOf}
+use Rattle.placements.specs.Placements.{pointOf}
 use Rattle.verdict.specs.Conditions.{InOrder}
 use Rattle.verdict.specs.Verdict.{Condition, numbered}
 

@@ -37,7 +37,7 @@ use Rattle.roles.proofs.role.is_right_at.Reads as is-right-at-reads
 use Rattle.roles.proofs.role.is_switch.Reads as is-switch-reads
 use Rattle.drawing.proofs.place.onward.Reads as onward-reads
 use Rattle.roles.proofs.role.role_at.Reads as role-at-reads
-use Rattle.drawing.proofs.place.set_point.Reads as set-point-reads
+use Rattle.placements.proofs.set_point.Reads as set-point-reads
 
 abbrev pub μ-at-knee : Measures 5 at-knee-kinds.ps ℕ
 μ-at-knee κs a = 5 * unplaced (a .0 .now) (a .1 .1 .1 .1 .1 .1 .0)

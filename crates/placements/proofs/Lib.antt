@@ -1,0 +1,2 @@
+-- The laws of placements.
+pub mod Points

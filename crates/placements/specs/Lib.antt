@@ -1,0 +1,2 @@
+-- Placements: where the point of a record is stored.
+pub mod Placements
