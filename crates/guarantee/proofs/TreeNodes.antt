@@ -14,7 +14,7 @@ use Rattle.table.proofs.Lists.{member-cons}
 use Rattle.table.proofs.Accepted.{tree-unfolds, down}
 use Rattle.layout.proofs.Records.{IsNode, node-here, node-left, node-right, Root, root-here, Child, left-child, right-child, child-left, child-right}
 use Rattle.layout.proofs.Stacked.{Among, here, there}
-use Rattle.verdict.proofs.Ends.{child-chained}
+use Rattle.table.proofs.Ends.{child-chained}
 
 -- S is a subtree of a tree.
 data Subtree (S : Tree) : Tree → Type 0 where

@@ -12,9 +12,10 @@ use Rattle.table.specs.Table.{records, nextOf, tagOf, follow, chain}
 use Rattle.table.specs.Refusal.{refusal}
 use Rattle.table.proofs.Lists.{member-cons}
 use Rattle.table.proofs.Accepted.{refusal-none, chain-within}
-use Rattle.text.specs.Text.{decimal, fields, nodeLine, nodeLines}
-use Rattle.text.specs.inner.Put.{Put}
-use Rattle.text.proofs.Puts.{put-then, put-length}
+use Rattle.fields.specs.Fields.{decimal, fields}
+use Rattle.text.specs.Text.{nodeLine, nodeLines}
+use Rattle.fields.specs.inner.Put.{Put}
+use Rattle.fields.proofs.Puts.{put-then, put-length}
 
 pub put-node : (t p : List ℕ) (k g : ℕ) {a b c : List ℕ} {i j r : ℕ} → g ≡ tagOf t k → Put (decimal k) a i j b → Put (fields (getD p (2 * k) 0 ∷ getD p (2 * k + 1) 0 ∷ g ∷ [])) b j r c → Put (nodeLine t p k) a i r c
 unfolding nodeLine

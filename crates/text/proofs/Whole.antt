@@ -16,7 +16,7 @@ use Rattle.drawing.specs.declared.Drawn.{Drawn}
 use Rattle.drawing.specs.Answer.{planOf, drawnOf, placedIn}
 use Rattle.drawing.proofs.Answered.{accepted, drawn-refusal}
 use Rattle.text.specs.Text.{planLine, nodeLines, refusedLine, textFrom, lent, textOf, textWithin}
-use Rattle.text.specs.inner.Put.{Put}
+use Rattle.fields.specs.inner.Put.{Put}
 
 -- What stands from the start of a buffer on.
 pub whole : {x y before after : List ℕ} {r : ℕ} → y ≡ x → Put x before 0 r after → r ≤ length before → (r ≡ length y) × (after ≡ y ++ drop r before)

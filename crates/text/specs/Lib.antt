@@ -1,3 +1,2 @@
 -- What the program prints (document 01, "Sheets worked by hand").
 pub mod Text
-pub mod inner

@@ -1,28 +1,15 @@
--- The text for a table (document 01, the last part of "Sheets worked by hand"). Bytes are ASCII: 48 is the digit 0, 32 the space, 10 the line feed.
+-- The text for a table (document 01, the last part of "Sheets worked by hand"). Bytes are ASCII.
 use mathlib.Core.Bool.{true, false, cond}
 use mathlib.Core.List.{List, [], _∷_, _++_}
-use Prim.Native.Nat.{ℕ, zero, suc, _+_, _/_, _%_}
+use Prim.Native.Nat.{ℕ}
 use lib.Dec.{ltb, eqb}
 use lib.ListN.{replicate}
+use Rattle.fields.specs.Fields.{decimal, fields}
 use Rattle.placements.specs.Placements.{columnOf, rowOf}
 use Rattle.table.specs.Table.{tagOf, chain}
 use Rattle.drawing.specs.declared.Plan.{Plan}
 use Rattle.drawing.specs.declared.Drawn.{Drawn}
 use Rattle.drawing.specs.Answer.{drawnOf, placedIn}
-
--- "Fields are decimal": the digits of n, the first of them not 0 unless it is the only one; at most m of them
-unfoldable pub digits : ℕ → ℕ → List ℕ
-digits zero n = []
-digits (suc m) n = elim (ltb n 10) [ true ↦ (48 + n) ∷ [] | false ↦ digits m (n / 10) ++ ((48 + n % 10) ∷ []) ]
-
--- A number n has no more than n + 1 digits: none is cut off (`decimal-more`, proofs/Decimal).
-unfoldable pub decimal : ℕ → List ℕ
-decimal n = digits (suc n) n
-
--- "with one space between, each line ended by a line feed": what follows the first word of a line
-unfoldable pub fields : List ℕ → List ℕ
-fields [] = 10 ∷ []
-fields (n ∷ ns) = 32 ∷ (decimal n ++ fields ns)
 
 -- "It prints `plan`, then boxes, width and height": 112 is p, 108 l, 97 a, 110 n
 unfoldable pub planLine : Plan → List ℕ

@@ -1,5 +1,4 @@
 // The text of a table's drawing, as the program prints it (specs/Text).
-mod fields;
 mod lines;
 
 use crate::lines::put_plan;

@@ -1,8 +1,8 @@
 // The lines of the text: a refusal's, a plan's, and a line a node.
-use crate::fields::put_decimal;
-use crate::fields::put_last;
-use crate::fields::put_three;
-use crate::fields::put_word;
+use fields::put_decimal;
+use fields::put_last;
+use fields::put_three;
+use fields::put_word;
 use drawing::Plan;
 use records::words::next;
 use records::words::tag;
@@ -13,7 +13,7 @@ ghost use lib.ListN.{length};
 ghost use Rattle.table.specs.Table.{records, chain};
 ghost use Rattle.table.specs.Refusal.{refusal as refusalOf};
 ghost use Rattle.text.specs.Text.{planLine, nodeLine, nodeLines, refusedLine};
-ghost use Rattle.text.specs.inner.Put.{Put};
+ghost use Rattle.fields.specs.inner.Put.{Put};
 
 // A refusal's line, at the start of out.
 pub fn put_refusal(refusal: u16, out: &mut [u8]) -> usize

@@ -1,7 +1,6 @@
 -- The laws of the verdict, and the proofs of the functions. None is assumed.
 pub mod Unique
 pub mod OffChain
-pub mod Ends
 pub mod Clashes
 pub mod Decide
 pub mod Before

@@ -1,10 +1,9 @@
 -- What the steps of a check say to each other. No promise to a caller is here.
 use mathlib.Core.Path.{_≡_}
 use mathlib.Core.Logic.{_≢_}
-use mathlib.Core.Bool.{cond}
 use mathlib.Core.List.{List, [], _∷_}
 use Prim.Native.Nat.{ℕ, _+_, _*_, _≤_, _<_}
-use lib.Dec.{T, eqb}
+use lib.Dec.{T}
 use lib.ListN.{length, getD}
 use Rattle.segment.specs.declared.Point.{Point}
 use Rattle.segment.specs.declared.meeting.Meeting.{Meeting}
@@ -17,21 +16,13 @@ use Rattle.table.specs.Lists.{member}
 use Rattle.table.specs.Table.{Side, records, leftOf, rightOf, linkOf, Line}
 use Rattle.table.specs.Trees.{roots}
 use Rattle.placements.specs.Placements.{pointOf}
+use Rattle.parents.specs.inner.Parents.{above}
 use Rattle.verdict.specs.Conditions.{InOrder}
 use Rattle.verdict.specs.Verdict.{Condition, numbered}
 
 -- The point of the node at place i of a list of nodes.
 abbrev pub nodeAt : List ℕ → List ℕ → ℕ → Point
 nodeAt p nodes i = pointOf p (getD nodes i 0)
-
--- up has the parent of each child, and 0 for the roots.
-pub record Parents (t up : List ℕ) : Type 0 where
-  pub parent : (k c : ℕ) (s : Side) → Line t k s c → getD up c 0 ≡ k
-  pub root : (k : ℕ) → T (member k (roots t)) → k ≢ 0 → getD up k 0 ≡ 0
-
--- What is above c: its parent, or c itself where there is none.
-abbrev pub above : List ℕ → ℕ → ℕ
-above up c = cond (eqb (getD up c 0) 0) c (getD up c 0)
 
 -- The first n nodes of a list, and what is above each, have their places among the placements.
 pub record Packable (p nodes : List ℕ) (n : ℕ) (up : List ℕ) : Type 0 where

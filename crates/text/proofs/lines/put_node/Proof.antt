@@ -1,7 +1,7 @@
 -- `text::lines::put_node` meets its contract. Assumes nothing.
 use native.Mathlib.Omega.{arith}
 use borrow.Author.Needs.{needs}
-use Rattle.text.proofs.Decimal.{length-short}
+use Rattle.fields.proofs.Decimal.{length-short}
 use Rattle.text.proofs.Nodes.{put-node}
 use Rattle.text.proofs.lines.put_node.Statement.{statement}
 use Rattle.text.proofs.lines.put_node.Tie as tie

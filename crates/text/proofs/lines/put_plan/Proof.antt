@@ -3,7 +3,7 @@ use native.Mathlib.Omega.{arith}
 use borrow.Author.Needs.{needs}
 use Rattle.table.proofs.Accepted.{refusal-none, records-bounds, chain-length}
 use Rattle.text.specs.Text.{planLine}
-use Rattle.text.proofs.Puts.{put-then}
+use Rattle.fields.proofs.Puts.{put-then}
 use Rattle.text.proofs.lines.put_plan.Statement.{statement}
 use Rattle.text.proofs.lines.put_plan.Tie as tie
 

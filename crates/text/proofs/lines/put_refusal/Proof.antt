@@ -2,7 +2,7 @@
 use native.Mathlib.Omega.{arith}
 use borrow.Author.Needs.{needs}
 use Rattle.text.specs.Text.{refusedLine}
-use Rattle.text.proofs.Puts.{put-then}
+use Rattle.fields.proofs.Puts.{put-then}
 use Rattle.text.proofs.lines.put_refusal.Statement.{statement}
 use Rattle.text.proofs.lines.put_refusal.Tie as tie
 

@@ -1,0 +1,3 @@
+-- Numbers in decimal, and the fields of a line.
+pub mod Fields
+pub mod inner

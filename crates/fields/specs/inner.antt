@@ -1,0 +1,2 @@
+-- What the functions that write bytes say of their buffer.
+pub mod Put

@@ -1,0 +1,2 @@
+-- The laws of parents.
+pub mod Upward

@@ -1,0 +1,2 @@
+-- The parents of nodes, as a list.
+pub mod Parents
