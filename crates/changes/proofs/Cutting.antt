@@ -7,10 +7,10 @@ use Prim.Native.Nat.{ℕ, _/_, _≤_, _<_}
 use native.Mathlib.Omega.{arith}
 use lib.ListN.{length, drop-of-length-le}
 use Rattle.table.specs.Lists.{member}
-use Rattle.table.specs.Table.{records, word, nextOf, leftOf, rightOf, tagOf, rootOf, chain, Chained, firstFree}
+use Rattle.table.specs.Table.{records, word, nextOf, leftOf, rightOf, tagOf, rootOf, chain, Chained, firstFree, Empty}
 use Rattle.table.specs.Trees.{named}
 use Rattle.table.specs.Writing.{Write, write}
-use Rattle.table.proofs.Accepted.{Empty, chain-within, root}
+use Rattle.table.proofs.Accepted.{chain-within, root}
 use Rattle.table.proofs.Written.{Elsewhere, length-writes, writes-kept, writes-last}
 use Rattle.hanging.specs.Cutting.{cutRefusal, namerOf, holder, hook, cutOut}
 use Rattle.hanging.proofs.Places.{Cuttable, cuttable}

@@ -5,11 +5,11 @@ use mathlib.Core.Logic.{_⊎_, inl, inr, ⊎-elim}
 use mathlib.Core.List.{List}
 use Prim.Native.Nat.{ℕ, suc, _+_, _<_}
 use native.Mathlib.Omega.{arith}
-use Rattle.table.specs.Table.{Side, left, right, leftOf, rightOf, linkOf, chain, Chained}
+use Rattle.table.specs.Table.{Side, left, right, leftOf, rightOf, linkOf, chain, Chained, Empty}
 use Rattle.table.specs.Trees.{named}
 use Rattle.table.proofs.Lists.{sum, sum-same, same, same-zero, same-one, Alike, alike, count-sum, member-count, repeats-count, count-links}
 use Rattle.table.proofs.Chain.{number, number-bound, link-word}
-use Rattle.table.proofs.Accepted.{Empty, chain-distinct, links-chained}
+use Rattle.table.proofs.Accepted.{chain-distinct, links-chained}
 use Rattle.changes.proofs.Inserted.{behind-sum}
 use Rattle.changes.proofs.Graft.{leaf-links}
 use Rattle.changes.proofs.GrowChain.{Growth, off-chain, leaf-word, chained-word, graft-behind}

@@ -7,12 +7,12 @@ use Prim.Native.Nat.{ℕ, _+_, _≤_, _<_}
 use native.Mathlib.Omega.{arith}
 use lib.Dec.{eqb, eqb→eq}
 use Rattle.table.specs.Lists.{member, count, select}
-use Rattle.table.specs.Table.{Side, records, tagOf, leftOf, rightOf, linkOf, rootOf, chain, Chained, free, Free}
+use Rattle.table.specs.Table.{Side, records, tagOf, leftOf, rightOf, linkOf, rootOf, chain, Chained, free, Free, Empty}
 use Rattle.table.specs.Trees.{named, startsTree, roots}
 use Rattle.table.specs.Refusal.{badLength, badHead, fault}
 use Rattle.table.proofs.Lists.{T-false, passes, member-cons, distinct-cons, same, Alike, alike, select-same, member-none, Distinct, repeats-count}
 use Rattle.table.proofs.Causes.{starts-not, root-first}
-use Rattle.table.proofs.Accepted.{Empty, empty-none, fault-none, chain-within, chain-distinct, free-within, free-distinct, free-zero, links-chained, root, parented, down}
+use Rattle.table.proofs.Accepted.{empty-none, fault-none, chain-within, chain-distinct, free-within, free-distinct, free-zero, links-chained, root, parented, down}
 use Rattle.table.proofs.Accepting.{Sound, Reaching, sound-accepted}
 use Rattle.changes.proofs.Inserted.{behind-count, behind-select}
 use Rattle.changes.proofs.Graft.{as-many, slot-bounds, leaf-links}

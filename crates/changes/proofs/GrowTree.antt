@@ -7,14 +7,14 @@ use Prim.Native.Nat.{ℕ, zero, suc, _≤_, _<_}
 use native.Mathlib.Omega.{arith}
 use lib.Dec.{eqb}
 use borrow.Author.Tests.{eq-eqb, ne-eqb}
-use Rattle.table.specs.Table.{Side, left, right, records, leftOf, rightOf, linkOf, Chained}
+use Rattle.table.specs.Table.{Side, left, right, records, leftOf, rightOf, linkOf, Chained, Empty}
 use Rattle.table.specs.Tree.{Tree, none, node, size, descend, treeAt}
 use Rattle.table.specs.Trees.{roots, trees}
 use Rattle.table.specs.Refusal.{fault}
 use Rattle.table.proofs.Lists.{Alike, alike}
 use Rattle.table.proofs.Chain.{number, descend-none, trees-alike}
 use Rattle.table.proofs.Causes.{roots-chained}
-use Rattle.table.proofs.Accepted.{Empty, chain-length, links-chained, tree-none, size-below, tree-unfolds, size-child}
+use Rattle.table.proofs.Accepted.{chain-length, links-chained, tree-none, size-below, tree-unfolds, size-child}
 use Rattle.changes.specs.Leaf.{withLeaf}
 use Rattle.changes.proofs.Graft.{as-many, leaf-links}
 use Rattle.changes.proofs.GrowChain.{Growth}

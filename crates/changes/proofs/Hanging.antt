@@ -6,12 +6,12 @@ use mathlib.Core.List.{List, [], _∷_, map}
 use Prim.Native.Nat.{ℕ, zero, suc, _+_, _*_, _≤_, _<_}
 use native.Mathlib.Omega.{arith}
 use lib.ListN.{length}
-use Rattle.table.specs.Table.{records, word, nextOf, tagOf, Chained, firstFree, Free}
+use Rattle.table.specs.Table.{records, word, nextOf, tagOf, Chained, firstFree, Free, Empty}
 use Rattle.table.specs.Tree.{Tree, none, node}
 use Rattle.table.specs.Trees.{trees}
 use Rattle.table.specs.Refusal.{fault}
 use Rattle.table.specs.Writing.{Write, write}
-use Rattle.table.proofs.Accepted.{Empty, records-bounds, chain-within, first-free, free-zero}
+use Rattle.table.proofs.Accepted.{records-bounds, chain-within, first-free, free-zero}
 use Rattle.table.proofs.Written.{length-writes, writes-kept, writes-last}
 use Rattle.hanging.specs.Hanging.{slot, hangRefusal, hung}
 use Rattle.hanging.proofs.Places.{Place, slot-side, hang-place, hang-within}

@@ -10,13 +10,13 @@ use native.Mathlib.Omega.{arith}
 use lib.Dec.{T, eqb}
 use borrow.Author.Tests.{eqb-true}
 use Rattle.table.specs.Lists.{member}
-use Rattle.table.specs.Table.{records, word, nextOf, chain, Chained, firstFree, free, Free}
+use Rattle.table.specs.Table.{records, word, nextOf, chain, Chained, firstFree, free, Free, Empty}
 use Rattle.table.specs.Refusal.{fault}
 use Rattle.table.specs.OffChain.{OffChain}
 use Rattle.table.specs.Writing.{Write, written}
 use Rattle.table.proofs.Lists.{member-cons}
 use Rattle.table.proofs.Written.{OfWords, length-writes, written-same}
-use Rattle.table.proofs.Accepted.{Empty, records-bounds, chain-within, free-within, first-free}
+use Rattle.table.proofs.Accepted.{records-bounds, chain-within, free-within, first-free}
 use Rattle.table.proofs.OffChain.{chain-same, first-same, starts-same}
 use Rattle.hanging.specs.Hanging.{slot, hangRefusal, hung, afterHang}
 use Rattle.hanging.specs.Holding.{afterHeld}

@@ -7,12 +7,12 @@ use Prim.Native.Nat.{ℕ, _+_, _<_}
 use native.Mathlib.Omega.{arith}
 use lib.ListN.{drop-of-length-le}
 use Rattle.table.specs.Lists.{count}
-use Rattle.table.specs.Table.{Side, left, right, word, leftOf, rightOf, linkOf, rootOf, chain, Chained}
+use Rattle.table.specs.Table.{Side, left, right, word, leftOf, rightOf, linkOf, rootOf, chain, Chained, Empty}
 use Rattle.table.specs.Trees.{named}
 use Rattle.table.proofs.Lists.{same, same-one, same-zero, Alike, alike, sum, sum-same, member-count, repeats-count, count-links}
 use Rattle.table.proofs.Chain.{names}
 use Rattle.table.proofs.Causes.{root-first}
-use Rattle.table.proofs.Accepted.{Empty, empty-none, chain-within, chain-distinct, root, parent-unique, root-unnamed}
+use Rattle.table.proofs.Accepted.{empty-none, chain-within, chain-distinct, root, parent-unique, root-unnamed}
 use Rattle.changes.proofs.Inserted.{behind-sum, behind-count, behind-length, behind-member}
 use Rattle.changes.proofs.Graft.{Graft, names-leaf, leaf-links}
 use Rattle.changes.proofs.PruneChain.{Prunable, pruned-chain}

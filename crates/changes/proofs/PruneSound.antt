@@ -7,12 +7,12 @@ use Prim.Native.Nat.{ℕ, _≤_, _<_}
 use native.Mathlib.Omega.{arith}
 use lib.Dec.{eqb, eqb→eq}
 use Rattle.table.specs.Lists.{member, repeats, count}
-use Rattle.table.specs.Table.{Side, word, leftOf, rightOf, tagOf, linkOf, rootOf, chain, Chained, free, Free}
+use Rattle.table.specs.Table.{Side, word, leftOf, rightOf, tagOf, linkOf, rootOf, chain, Chained, free, Free, Empty}
 use Rattle.table.specs.Trees.{links, named}
 use Rattle.table.specs.Refusal.{badLength, badHead, fault}
 use Rattle.table.proofs.Lists.{T-false, passes, or-false, member-cons, Distinct, repeats-count}
 use Rattle.table.proofs.Causes.{root-cases}
-use Rattle.table.proofs.Accepted.{Empty, empty-none, fault-none, chain-within, chain-distinct, free-within, free-distinct, free-zero, links-chained, parented, down}
+use Rattle.table.proofs.Accepted.{empty-none, fault-none, chain-within, chain-distinct, free-within, free-distinct, free-zero, links-chained, parented, down}
 use Rattle.table.proofs.Accepting.{Sound, Reaching, sound-accepted}
 use Rattle.changes.proofs.Graft.{Graft, as-many, slot-bounds}
 use Rattle.changes.proofs.PruneChain.{Prunable, pruned-free}

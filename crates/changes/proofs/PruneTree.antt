@@ -8,12 +8,12 @@ use native.Mathlib.Omega.{arith}
 use lib.Dec.{T, eqb}
 use borrow.Author.Tests.{eq-eqb, ne-eqb}
 use Rattle.table.specs.Lists.{member, select}
-use Rattle.table.specs.Table.{left, right, records, leftOf, rightOf, rootOf, chain, Chained}
+use Rattle.table.specs.Table.{left, right, records, leftOf, rightOf, rootOf, chain, Chained, Empty}
 use Rattle.table.specs.Tree.{Tree, none, node, size, descend, treeAt}
 use Rattle.table.specs.Trees.{startsTree, trees}
 use Rattle.table.proofs.Lists.{member-cons, Alike, alike, select-same}
 use Rattle.table.proofs.Chain.{descend-none}
-use Rattle.table.proofs.Accepted.{Empty, empty-none, tree-none, chain-within, chain-length, links-chained, size-below, tree-unfolds, size-child}
+use Rattle.table.proofs.Accepted.{empty-none, tree-none, chain-within, chain-length, links-chained, size-below, tree-unfolds, size-child}
 use Rattle.changes.specs.Leaf.{withoutLeaf, nonempty, withoutNode}
 use Rattle.changes.proofs.Inserted.{behind-select}
 use Rattle.changes.proofs.Graft.{Graft, as-many}

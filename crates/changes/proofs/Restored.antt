@@ -5,9 +5,8 @@ use mathlib.Core.List.{List}
 use Prim.Native.Nat.{ℕ, _<_}
 use native.Mathlib.Omega.{arith}
 use lib.ListN.{length}
-use Rattle.table.specs.Table.{chain, Chained, firstFree}
+use Rattle.table.specs.Table.{chain, Chained, firstFree, Empty}
 use Rattle.table.specs.Writing.{Bytes}
-use Rattle.table.proofs.Accepted.{Empty}
 use Rattle.table.proofs.Bytes.{word-small, bytes-all}
 use Rattle.hanging.specs.Hanging.{hangRefusal, hung}
 use Rattle.hanging.specs.Cutting.{cutRefusal, afterCut}

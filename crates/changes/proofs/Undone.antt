@@ -7,7 +7,6 @@ use mathlib.Core.List.{List}
 use Prim.Native.Nat.{ℕ, suc, _<_}
 use native.Mathlib.Decide.{ℕ-discrete}
 use native.Mathlib.Omega.{arith}
-use borrow.Author.Tests.{eq-eqb}
 use Rattle.table.specs.Table.{Side, left, right, word, linkOf, rootOf, chain, Chained}
 use Rattle.table.specs.Trees.{named}
 use Rattle.table.specs.Refusal.{fault}
@@ -17,6 +16,7 @@ use Rattle.table.proofs.Accepted.{records-bounds, chain-within, parent-unique, 
 use Rattle.table.specs.Writing.{Bytes}
 use Rattle.table.proofs.Bytes.{word-small, same-words, bytes-all}
 use Rattle.table.proofs.Nexts.{next-unique}
+use Rattle.table.proofs.Saying.{lent-made}
 use Rattle.hanging.specs.Cutting.{cutRefusal, namerOf, holder, hook, cutOut, afterCut}
 use Rattle.hanging.proofs.Places.{Cuttable, cut-granted}
 use Rattle.changes.proofs.Graft.{Graft, NamedBy}
@@ -110,4 +110,4 @@ module _ {t u : List ℕ} {c p j f : ℕ} (g : Graft t u c p j f) (h : Prunable 
 
   pub after-undoes : Bytes t → Bytes u → afterCut u f ≡ t
   unfolding afterCut
-  after-undoes a b = rw (eq-eqb (cutRefusal u f) 0 cut-allowed, afterCut) (cut-undoes a b)
+  after-undoes a b = sym (lent-made (cutRefusal u f) (cutOut u f) u cut-allowed) ∙ cut-undoes a b

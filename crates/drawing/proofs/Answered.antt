@@ -8,6 +8,7 @@ use lib.ListN.{length}
 use borrow.Author.Tests.{eq-eqb, ne-eqb}
 use Rattle.table.specs.Trees.{trees}
 use Rattle.table.specs.Refusal.{refusal}
+use Rattle.table.proofs.Saying.{lent-made, lent-kept}
 use Rattle.layout.specs.Trees.{drawTrees}
 use Rattle.drawing.specs.declared.Drawn.{Drawn}
 use Rattle.drawing.specs.Answer.{storeAll, emptyPlan, planOf, drawnOf, placedIn}
@@ -18,7 +19,7 @@ pub record Accepted (t p : List ℕ) : Type 0 where
 
 pub accepted : (t p : List ℕ) → refusal t (length p) ≡ 0 → Accepted t p
 unfolding drawnOf placedIn
-accepted t p e = record { drawn = rw (drawnOf, eq-eqb (refusal t (length p)) 0 e); after = rw (placedIn, eq-eqb (refusal t (length p)) 0 e) }
+accepted t p e = record { drawn = rw (drawnOf, eq-eqb (refusal t (length p)) 0 e); after = sym (lent-made (refusal t (length p)) _ p e) }
 
 pub record Refused (t p : List ℕ) : Type 0 where
   pub drawn : drawnOf t p ≡ record { refusal = refusal t (length p); plan = emptyPlan }
@@ -26,7 +27,7 @@ pub record Refused (t p : List ℕ) : Type 0 where
 
 pub refused : (t p : List ℕ) → refusal t (length p) ≢ 0 → Refused t p
 unfolding drawnOf placedIn
-refused t p e = record { drawn = rw (drawnOf, ne-eqb (refusal t (length p)) 0 e); after = rw (placedIn, ne-eqb (refusal t (length p)) 0 e) }
+refused t p e = record { drawn = rw (drawnOf, ne-eqb (refusal t (length p)) 0 e); after = sym (lent-kept (refusal t (length p)) _ p e) }
 
 pub drawn-refusal : (t p : List ℕ) → drawnOf t p .refusal ≡ refusal t (length p)
 drawn-refusal t p = go (ℕ-discrete (refusal t (length p)) 0)

@@ -1,8 +1,7 @@
--- Laws of the drawer's answer, and of placing. The answer: Answered, OffChain, Before, Elsewhere, Whole. Storing: StoredPoints, StoredOrder, StoredTrees. Along a spine: Shapes, Columns, Onward, Walking,
+-- Laws of the drawer's answer, and of placing. The answer: Answered, OffChain, Elsewhere, Whole. Storing: StoredPoints, StoredOrder, StoredTrees. Along a spine: Shapes, Columns, Onward, Walking,
 -- Starting. From tree to tree: Stacking.
 pub mod Answered
 pub mod OffChain
-pub mod Before
 pub mod StoredPoints
 pub mod StoredOrder
 pub mod StoredTrees

@@ -12,7 +12,7 @@ use Rattle.table.specs.Tree.{Tree, none, size, treeAt}
 use Rattle.table.specs.Trees.{roots, trees, nodesOf}
 use Rattle.table.specs.Refusal.{fault, refusal}
 use Rattle.records.specs.declared.Reading.{Reading}
-use Rattle.records.specs.inner.Reading.{Read, ReadOf}
+use Rattle.records.specs.inner.Reading.{Traced, Read, ReadOf}
 use Rattle.table.proofs.Lists.{within-one, length-within}
 use Rattle.table.proofs.Accepted.{refusal-none, tree-none, records-bounds, chain-length, root, nodes-length}
 use Rattle.layout.specs.Layout.{width, height, shift}
@@ -69,8 +69,8 @@ first-there ks rs others n e h = (within, λ i l. sym (getD-take n ks i 0 (omega
     within : length rs ≤ n
     within = omega (arith, ap length e, length-append rs others, length-take-le n ks h)
 
-pub roots-lead : (t : List ℕ) (n : ℕ) (list order sizes : List ℕ) → Read t n list order sizes → (n ≡ 0 → ⊥) → Led t order
-roots-lead t n list order sizes l some =
+pub roots-lead : (t : List ℕ) (n : ℕ) (list order : List ℕ) → Traced t n list order → (n ≡ 0 → ⊥) → Led t order
+roots-lead t n list order l some =
     let f = first-there order (roots t) _ n (l .ordered .queued some .listed) (l .ordered .enough) in
     record { long = omega (arith, f .0, l .ordered .enough); led = f .1 }
 

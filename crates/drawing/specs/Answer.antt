@@ -1,11 +1,12 @@
 -- The drawer's whole answer for any bytes and placements: refusal, plan, and every placement afterwards (document 01, "The rack table", "How the contracts bind"; document 02, Paper 8).
+use mathlib.Core.Path.{_≡_}
 use mathlib.Core.Bool.{true, false}
 use mathlib.Core.List.{List, [], _∷_}
-use Prim.Native.Nat.{ℕ}
+use Prim.Native.Nat.{ℕ, _*_, _/_, _≤_, _<_}
 use lib.Dec.{eqb}
-use lib.ListN.{length}
+use lib.ListN.{length, getD}
 use Rattle.placements.specs.Placements.{withPoint}
-use Rattle.table.specs.Table.{chain}
+use Rattle.table.specs.Table.{records, chain, Chained}
 use Rattle.table.specs.Trees.{trees}
 use Rattle.table.specs.Refusal.{refusal}
 use Rattle.table.specs.Said.{keptOnRefusal}
@@ -39,3 +40,10 @@ drawnOf t p = elim (eqb (refusal t (length p)) 0) [ true ↦ record { refusal = 
 -- Every placement afterwards: all kept on a refusal.
 unfoldable pub placedIn : List ℕ → List ℕ → List ℕ
 placedIn t p = keptOnRefusal (refusal t (length p)) (storeAll (drawTrees (trees t)) p) p
+
+-- "Entries of the head, of unchained records and beyond are kept": of the placements p, which are then q
+pub record KeptElsewhere (t p q : List ℕ) : Type 0 where
+  pub long : length q ≡ length p
+  pub head : (i : ℕ) → i < 2 → getD q i 0 ≡ getD p i 0
+  pub unchained : (i : ℕ) → (Chained t (i / 2) → ⊥) → getD q i 0 ≡ getD p i 0
+  pub beyond : (i : ℕ) → 2 * records t ≤ i → getD q i 0 ≡ getD p i 0

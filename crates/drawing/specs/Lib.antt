@@ -1,4 +1,3 @@
--- The drawer's whole answer, and what it was.
+-- The drawer's whole answer.
 pub mod Answer
-pub mod Before
 pub mod inner

@@ -15,7 +15,7 @@ ghost use Rattle.table.specs.Table.{left, right};
 ghost use Rattle.table.specs.Tree.{treeAt};
 ghost use Rattle.layout.specs.Spine.{Role as LayoutRole, knee, ordinary, switch};
 ghost use Rattle.layout.specs.inner.Held.{inwards as inwardsOf, far, Inside};
-ghost use Rattle.roles.specs.Chosen.{sideOf, Handed};
+ghost use Rattle.roles.specs.Chosen.{sideOf};
 ghost use Rattle.roles.specs.inner.Forked.{Forked};
 ghost use Rattle.drawing.specs.inner.Placing.{handAt, walkTo, Given, Hanging, Hung, Going, Stepped};
 
@@ -284,7 +284,6 @@ pub fn draw_tree(
     root: usize,
     top: usize,
 ) -> usize
-    requires { ⌜ Handed (now roles) left (treeAt (now table) root) ⌝ }
     requires { ⌜ Given (now table) (now sizes) (now roles) (now widest) (now points) ⌝ }
     requires { ⌜ Hanging (now table) (now roles) (now widest) left root 0 0 top ⌝ }
     ensures { λ r. ⌜ Hung (now (table .entry)) left root 0 top (now (points .entry)) r (now (points .exit)) ⌝ }

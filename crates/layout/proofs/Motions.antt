@@ -7,9 +7,9 @@ use Rattle.segment.specs.declared.Point.{Point}
 use Rattle.segment.specs.Segment.{at}
 use Rattle.segment.proofs.Weights.{Weights, weighed}
 use Rattle.table.specs.Table.{left, right}
-use Rattle.layout.specs.Layout.{Layout, blank, placed, width, height, shift, flip}
+use Rattle.layout.specs.Layout.{Layout, blank, placed, width, height, shift, flip, RootAt}
 use Rattle.layout.proofs.Clean.{HasRoot, a-root, Kind, Piece, root, edge, below, Node, top, point, Before}
-use Rattle.layout.proofs.Points.{Along, PointOf, pointOn, EdgeTo, point-edge, point-below, Lower, RootAt, Order, exchange, Untangled, bare, fork, NodeInWindow, InWindow, point-within}
+use Rattle.layout.proofs.Points.{Along, PointOf, pointOn, EdgeTo, point-edge, point-below, Lower, Order, exchange, Untangled, bare, fork, NodeInWindow, InWindow, point-within}
 
 -- ---- shift
 

@@ -13,7 +13,7 @@ use Rattle.table.proofs.Lists.{same, alike, member-count}
 use Rattle.table.proofs.Chain.{count-node}
 use Rattle.layout.specs.Layout.{mirror}
 use Rattle.layout.specs.Spine.{SpineNode, hangs, spine, Role, switch, facing, seen, roleAfter, handAfter, Assigned, assigned, rolesAfter, roles}
-use Rattle.layout.specs.Rectangle.{Hangs, here, further, DrawnIn, whole, hung}
+use Rattle.layout.specs.Rectangle.{Hangs, here, further, DrawnIn, whole, hung, OnSpine}
 use Rattle.layout.proofs.Rows.{size-facing}
 use Rattle.layout.proofs.Spines.{spineTree, Light, light-end, light-node, spine-whole, light-spine, count-over, first-knee}
 
@@ -30,13 +30,6 @@ count-facing left x t = refl
 count-facing right x t = count-mirror x t
 
 -- ---- every node is on a spine
-
--- k is a node of a spine of the drawing of a.
-pub record OnSpine (a : Tree) (k : ℕ) : Type 0 where
-  pub S : Tree
-  pub U : Tree
-  pub is-drawn : DrawnIn a S
-  pub hanging : Hangs k U (roles (spine S))
 
 -- k is a node of this spine, or of what hangs from one of its nodes, which has fewer than n nodes.
 pub data OnOrOff (n k : ℕ) (ls : List Assigned) : Type 0 where

@@ -8,7 +8,7 @@ use native.Mathlib.Omega.{arith}
 use Rattle.segment.specs.declared.Point.{Point}
 use Rattle.segment.proofs.Weights.{Weights, turned, weighed, at-end}
 use Rattle.table.specs.Table.{Side, left, right}
-use Rattle.layout.specs.Layout.{Layout, blank, placed, height}
+use Rattle.layout.specs.Layout.{Layout, blank, placed, height, RootAt}
 use Rattle.layout.proofs.Clean.{onSide, HasRoot, a-root, Kind, Piece, root, edge, below, Node, top, point, parent, child, Before}
 
 -- ---- points of a segment
@@ -69,10 +69,6 @@ point-below s t = pointOn (below s (t .piece)) (t .on)
 abbrev pub Lower : ℕ → Layout → Type 0
 Lower m blank = Unit {0}
 Lower m (placed k P a b) = m < P .row
-
-abbrev pub RootAt : Point → Layout → Type 0
-RootAt Q blank = Unit {0}
-RootAt Q (placed k P a b) = P ≡ Q
 
 -- ---- untangled drawings
 

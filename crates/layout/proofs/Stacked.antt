@@ -14,10 +14,10 @@ use Rattle.table.specs.Table.{Side, left, right}
 use Rattle.table.specs.Tree.{Tree, nodes}
 use Rattle.table.specs.Trees.{nodesOf}
 use Rattle.table.proofs.Chain.{length-trees}
-use Rattle.layout.specs.Layout.{Layout, width, height, shift}
+use Rattle.layout.specs.Layout.{Layout, width, height, shift, RootAt}
 use Rattle.layout.specs.Drawing.{draw}
 use Rattle.layout.specs.Trees.{drawFrom, drawTrees, widthOf, heightOf}
-use Rattle.layout.proofs.Points.{PointOf, RootAt}
+use Rattle.layout.proofs.Points.{PointOf}
 use Rattle.layout.proofs.Motions.{shift-within, width-home, height-shift, height-below, shift-none, root-shift}
 use Rattle.layout.proofs.Rows.{shape, HoldsRow, row-shift}
 use Rattle.layout.proofs.Theorem.{promise}

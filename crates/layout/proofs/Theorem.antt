@@ -4,10 +4,9 @@ use Prim.Native.Nat.{ℕ, suc, _+_, _*_, _^_, _≤_, _<_}
 use native.Mathlib.Omega.{arith}
 use Rattle.segment.specs.Segment.{at}
 use Rattle.table.specs.Tree.{Tree, size}
-use Rattle.layout.specs.Layout.{Layout, width, height, shift}
+use Rattle.layout.specs.Layout.{Layout, width, height, shift, RootAt}
 use Rattle.layout.specs.Drawing.{draw}
 use Rattle.layout.proofs.Clean.{Clean}
-use Rattle.layout.proofs.Points.{RootAt}
 use Rattle.layout.proofs.Meet.{untangled-clean}
 use Rattle.layout.proofs.Motions.{untangled-shift}
 use Rattle.layout.proofs.Rows.{shape, HoldsRow}

@@ -9,11 +9,11 @@ use Rattle.segment.specs.declared.Point.{Point}
 use Rattle.segment.specs.Segment.{at}
 use Rattle.table.specs.Table.{Side, right}
 use Rattle.table.specs.Tree.{Tree, none, node, size}
-use Rattle.layout.specs.Layout.{Layout, blank, placed, width, height}
+use Rattle.layout.specs.Layout.{Layout, blank, placed, width, height, RootAt}
 use Rattle.layout.specs.Spine.{SpineNode, hangs, spine, Role, switch, opposite, seen, roleAfter, handAfter, Assigned, assigned, rolesAfter, roles, facing}
 use Rattle.layout.specs.Drawing.{Part, part, hang, widest, place, steps, drawing, draw}
 use Rattle.layout.proofs.Clean.{root}
-use Rattle.layout.proofs.Points.{RootAt, bare}
+use Rattle.layout.proofs.Points.{bare}
 use Rattle.layout.proofs.Rows.{shape, count, HoldsRow}
 use Rattle.layout.proofs.Steps.{Knee}
 use Rattle.layout.proofs.Along.{Drawn, turn, Proper, along}

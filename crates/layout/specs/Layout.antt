@@ -1,4 +1,5 @@
 -- Layouts: a tree with a point at each node, their extents and motions (document 01, "Words of the sheet" and steps 3 and 7).
+use mathlib.Core.Path.{_≡_}
 use Prim.Native.Nat.{ℕ, suc, _+_, _-_, max}
 use Rattle.segment.specs.declared.Point.{Point}
 use Rattle.segment.specs.Segment.{at}
@@ -18,6 +19,11 @@ width (placed k P a b) = max (suc (P .column)) (max (width a) (width b))
 unfoldable pub height : Layout → ℕ
 height blank = 0
 height (placed k P a b) = max (suc (P .row)) (max (height a) (height b))
+
+-- Its root, if there is one, is at Q.
+abbrev pub RootAt : Point → Layout → Type 0
+RootAt Q blank = Unit {0}
+RootAt Q (placed k P a b) = P ≡ Q
 
 -- The drawing with its left edge at column e and its top row at row t. Sums only.
 unfoldable pub shift : ℕ → ℕ → Layout → Layout

@@ -20,6 +20,13 @@ pub data DrawnIn (a : Tree) : Tree → Type 0 where
   whole : DrawnIn a a
   hung : {S U : Tree} {k : ℕ} → DrawnIn a S → Hangs k U (roles (spine S)) → DrawnIn a U
 
+-- k is a node of a spine of the drawing of a.
+pub record OnSpine (a : Tree) (k : ℕ) : Type 0 where
+  pub S : Tree
+  pub U : Tree
+  pub is-drawn : DrawnIn a S
+  pub hanging : Hangs k U (roles (spine S))
+
 -- x is between the least and the greatest of the numbers that f gives the nodes of U: one has at most x, another, or the same one, at least x.
 pub record Between (f : ℕ → ℕ) (U : Tree) (x : ℕ) : Type 0 where
   pub one : ℕ

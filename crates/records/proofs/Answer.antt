@@ -72,7 +72,7 @@ module _ (t : List ℕ) (places : ℕ) (r : Reading) (list order : List ℕ) (x 
 pub sized : (t : List ℕ) (places : ℕ) (r : Reading) (list order sizes : List ℕ) → TracedOf t places r list order → (r .refusal ≡ 0 → Filled t (chain t) sizes) → ReadOf t places r list order sizes
 sized t places r list order sizes d f = record {
   refusal = d .refusal;
-  accepted = λ z. record { nodes = d .accepted z .nodes; listed = d .accepted z .listed; ordered = d .accepted z .ordered; sized = f z .sized; none = f z .none };
+  accepted = λ z. record { traced = d .accepted z; sized = f z .sized; none = f z .none };
 }
 
 -- No nodes, nothing to be filled.

@@ -4,4 +4,3 @@ pub mod Choices
 pub mod Frames
 pub mod Spines
 pub mod Surveys
-pub mod Handed

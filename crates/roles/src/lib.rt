@@ -13,10 +13,9 @@ ghost use Prim.Native.Nat.{max};
 ghost use lib.Dec.{leb, ltb};
 ghost use lib.ListN.{length};
 ghost use Rattle.table.specs.Table.{left as leftSide, Chained};
-ghost use Rattle.table.specs.Tree.{treeAt};
 ghost use Rattle.table.specs.Refusal.{fault};
 ghost use Rattle.roles.specs.inner.Sized.{Sized};
-ghost use Rattle.roles.specs.Chosen.{sideOf, Handed};
+ghost use Rattle.roles.specs.Chosen.{sideOf};
 ghost use Rattle.roles.specs.inner.Forked.{Forked};
 ghost use Rattle.roles.specs.inner.Measured.{Measured};
 
@@ -78,8 +77,7 @@ pub fn prepare(
     requires { ⌜ Chained (now table) root ⌝ }
     requires { ⌜ Sized (now table) (now sizes) ⌝ }
     requires { ⌜ (length (now roles) ≡ 4097) × (length (now widest) ≡ 4097) ⌝ }
-    ensures { λ r. ⌜ Handed (now (roles .exit)) leftSide (treeAt (now (table .entry)) root)
-        × Measured (now (table .entry)) leftSide root
+    ensures { λ r. ⌜ Measured (now (table .entry)) leftSide root
         (now (roles .entry)) (now (widest .entry)) (now (roles .exit)) (now (widest .exit)) r ⌝ }
 {
     measure_left(table, sizes, roles, widest, root)

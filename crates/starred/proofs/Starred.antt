@@ -25,7 +25,7 @@ use Rattle.segment.proofs.FourKinds.{along, clashes}
 use Rattle.verdict.specs.Verdict.{Verdict}
 use Rattle.verdict.proofs.Decide.{present, someLine, samePoint, childAbove, twoLines, somePoint, clashing, inOrder, outOfOrder, verdictOf, decided}
 use Rattle.width.specs.Allowed.{greatest, floorLog2, allowedWidth}
-use Rattle.starred.specs.Cases.{Case, draws, checks, allows, accepted, Right, cases}
+use Rattle.starred.specs.Cases.{Case, draws, checks, allows, accepted, Right, All, cases}
 
 -- Equal lists, by a test.
 same : List ℕ → List ℕ → Bool
@@ -69,10 +69,6 @@ right (allows n w) ok = eqb→eq _ _ ok
 tests : List Case → Bool
 tests [] = true
 tests (c ∷ cs) = test c && tests cs
-
-abbrev pub All : (Case → Type 0) → List Case → Type 0
-All P [] = Unit {0}
-All P (c ∷ cs) = P c × All P cs
 
 every : (cs : List Case) → T (tests cs) → All Right cs
 unfolding tests

@@ -25,6 +25,11 @@ Right (draws t p n w h q) = (drawnOf t p ≡ accepted n w h) × (placedIn t p �
 Right (checks t p v) = Verdict t p v
 Right (allows n w) = allowedWidth n ≡ w
 
+-- So for every case of a list.
+abbrev pub All : (Case → Type 0) → List Case → Type 0
+All P [] = Unit {0}
+All P (c ∷ cs) = P c × All P cs
+
 -- Words to bytes, low byte first.
 abbrev pub bytes : List ℕ → List ℕ
 bytes [] = []

@@ -3,7 +3,6 @@ pub mod Unique
 pub mod OffChain
 pub mod Clashes
 pub mod Decide
-pub mod Before
 pub mod Parent
 pub mod Turning
 pub mod Places

@@ -4,12 +4,11 @@ use mathlib.Core.Logic.{_≢_}
 use mathlib.Core.List.{List, [], _∷_}
 use Prim.Native.Nat.{ℕ}
 use lib.ListN.{length}
-use borrow.Author.Tests.{eq-eqb, ne-eqb}
 use Rattle.table.specs.Table.{chain}
 use Rattle.table.specs.Tree.{Tree, none, size}
 use Rattle.table.specs.Trees.{trees}
 use Rattle.table.specs.Refusal.{fault, refusal}
-use Rattle.table.proofs.Saying.{answered-none, answered-refused}
+use Rattle.table.proofs.Saying.{answered-none, answered-refused, lent-made, lent-kept}
 use Rattle.layout.specs.Layout.{width, height, shift, mirror}
 use Rattle.layout.specs.Drawing.{drawing, draw}
 use Rattle.layout.specs.Trees.{drawFrom, widthOf, heightOf}
@@ -23,7 +22,7 @@ use Rattle.wide.specs.inner.Planned.{widePlanOf}
 module _ (t p : List ℕ) where
   pub wide-left : refusal t (length p) ≢ 0 → widePlacedIn t p ≡ p
   unfolding widePlacedIn
-  wide-left h = rw (widePlacedIn, ne-eqb (refusal t (length p)) 0 h)
+  wide-left h = sym (lent-kept (refusal t (length p)) _ p h)
 
   pub wide-refused : (n : ℕ) → n ≡ refusal t (length p) → n ≢ 0 → (said (Refused n) ≡ wideOf t p) × (p ≡ widePlacedIn t p)
   unfolding said wideOf
@@ -34,7 +33,7 @@ module _ (t p : List ℕ) where
   module _ (unrefused : refusal t (length p) ≡ 0) where
     pub wide-placed : widePlacedIn t p ≡ storeAll (drawWide (trees t)) p
     unfolding widePlacedIn
-    wide-placed = rw (widePlacedIn, eq-eqb (refusal t (length p)) 0 unrefused)
+    wide-placed = sym (lent-made (refusal t (length p)) _ p unrefused)
 
     pub wide-answered : (p′ : List ℕ) (a : Plan) → (a ≡ widePlanOf t) × (p′ ≡ storeAll (drawWide (trees t)) p) → (said (Planned a) ≡ wideOf t p) × (p′ ≡ widePlacedIn t p)
     unfolding said wideOf widePlanOf

@@ -29,7 +29,7 @@ returns-2 c =
     let test1 = c .before .before in
     let reading = test1 .before .before .before .before .before in
     let e = test1 .if1 .left in
-    nothing-drawn _ _ (sym (reading .read .ensures .refusal) ∙ e) (read-accepted _ _ _ _ _ _ (reading .read .ensures) e .0) (sym (reading .read .ensures .accepted e .nodes) ∙ c .if2 .taken)
+    nothing-drawn _ _ (sym (reading .read .ensures .refusal) ∙ e) (read-accepted _ _ _ _ _ _ (reading .read .ensures) e .0) (sym (reading .read .ensures .accepted e .traced .nodes) ∙ c .if2 .taken)
 
 slice-aggregate-plan-of : tie.Need-slice-aggregate-plan-of
 slice-aggregate-plan-of c = search needs
@@ -48,7 +48,7 @@ plan-of-requires c κs =
     let e = test1 .if1 .left in
     let ok = read-accepted _ _ _ _ _ _ (reading .read .ensures) e in
     let l = reading .read .ensures .accepted e in
-    (ok .0, (some-root _ (ok .0) _ (l .nodes) (test2 .if2 .left), (sizes-listed _ _ _ _ _ l (reading .read .kept .1 .1 .1 .1 .0), (roots-lead _ _ _ _ _ l (test2 .if2 .left), (reading .read .kept .1 .1 .0, (ok .1, l .nodes))))))
+    (ok .0, (some-root _ (ok .0) _ (l .traced .nodes) (test2 .if2 .left), (sizes-listed _ _ _ _ _ l (reading .read .kept .1 .1 .1 .1 .0), (roots-lead _ _ _ _ (l .traced) (test2 .if2 .left), (reading .read .kept .1 .1 .0, (ok .1, l .traced .nodes))))))
 
 same-length : tie.Need-same-length
 same-length c = search needs

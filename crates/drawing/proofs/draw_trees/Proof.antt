@@ -49,17 +49,14 @@ draw-tree-requires c κs =
     let test = measured .before .before .before .before in
     let l = test .before in
     let s = l .before .before .before .before .before .before .before in (
-      measured .prepare .ensures .0,
-      (
-        record {
-          sound = s .pre .0;
-          sized = s .pre .1 .1 .0;
-          long-roles = measured .prepare .kept .1 .1 .0 ∙ l .loop .inv .0;
-          long-widest = measured .prepare .kept .1 .1 .1 .0 ∙ l .loop .inv .1 .0;
-          enough = omega (arith, s .pre .1 .1 .1 .1 .1 .0, l .loop .inv .1 .1 .long);
-        },
-        stack-hanging _ (s .pre .0) (s .pre .1 .0) (l .loop .inv .1 .1) (omega (arith, test .loop-test .taken)) _ (s .pre .1 .1 .1 .0) _ _ _ (omega arith) (measured .prepare .ensures .1 .prepared),
-      ),
+      record {
+        sound = s .pre .0;
+        sized = s .pre .1 .1 .0;
+        long-roles = measured .prepare .kept .1 .1 .0 ∙ l .loop .inv .0;
+        long-widest = measured .prepare .kept .1 .1 .1 .0 ∙ l .loop .inv .1 .0;
+        enough = omega (arith, s .pre .1 .1 .1 .1 .1 .0, l .loop .inv .1 .1 .long);
+      },
+      stack-hanging _ (s .pre .0) (s .pre .1 .0) (l .loop .inv .1 .1) (omega (arith, test .loop-test .taken)) _ (s .pre .1 .1 .1 .0) _ _ _ (omega arith) (measured .prepare .ensures .prepared),
     )
 
 mul-unplaced : tie.Need-mul-unplaced Inv-loop μ-loop
@@ -115,7 +112,7 @@ loop-again c =
       (
         measured .prepare .kept .1 .1 .1 .0 ∙ l .loop .inv .1 .0,
         stack-step _ (s .pre .0) (s .pre .1 .0) (l .loop .inv .1 .1) (omega (arith, test .loop-test .taken)) _ (s .pre .1 .1 .1 .0) _ (s .pre .1 .1 .0) _ _ _ _
-            (chosen .most .ensures ∙ ap (max (l .loop .width)) (measured .prepare .ensures .1 .wide)) (drawn .draw-tree .ensures) refl (drawn .draw-tree .kept .1 .1 .1 .1 .0),
+            (chosen .most .ensures ∙ ap (max (l .loop .width)) (measured .prepare .ensures .wide)) (drawn .draw-tree .ensures) refl (drawn .draw-tree .kept .1 .1 .1 .1 .0),
       ),
     )
 

@@ -27,9 +27,7 @@ pub record TracedOf (t : List ℕ) (places : ℕ) (r : Reading) (list order : Li
 
 -- The same, and sizes has the size of the subtree at each node, 0 at zero, which "is none".
 pub record Read (t : List ℕ) (n : ℕ) (list order sizes : List ℕ) : Type 0 where
-  pub nodes : n ≡ length (chain t)
-  pub listed : take n list ≡ chain t
-  pub ordered : Ordered t n order
+  pub traced : Traced t n list order
   pub sized : (k : ℕ) → Chained t k → getD sizes k 0 ≡ size (treeAt t k)
   pub none : getD sizes 0 0 ≡ 0
 

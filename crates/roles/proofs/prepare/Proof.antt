@@ -1,7 +1,5 @@
--- `roles::prepare` meets its contract. Rests on Handed.
+-- `roles::prepare` meets its contract.
 use borrow.Author.Needs.{needs}
-use Rattle.layout.specs.Spine.{facing}
-use Rattle.roles.proofs.Handed.{handed}
 use Rattle.roles.proofs.prepare.Statement.{statement}
 use Rattle.roles.proofs.prepare.Tie as tie
 
@@ -15,8 +13,7 @@ same-length-2 : tie.Need-same-length-2
 same-length-2 c = search needs
 
 returns : tie.Need-returns
-unfolding facing
-returns c = let m = c .before .before .before .before .measure-left .ensures in (handed (m .prepared), m)
+returns c = c .before .before .before .before .measure-left .ensures
 
 pub prepare-spec : {M : Type 1} → statement M
 prepare-spec = tie.close (tie.spec measure-left-requires same-length same-length-2 returns)

@@ -30,7 +30,7 @@ returns-2 c =
     let test1 = c .before .before in
     let reading = test1 .before .before .before .before .before in
     let e = test1 .if1 .left in
-    wide-nothing _ _ (sym (reading .read .ensures .refusal) ∙ e) (read-accepted _ _ _ _ _ _ (reading .read .ensures) e .0) (sym (reading .read .ensures .accepted e .nodes) ∙ c .if2 .taken)
+    wide-nothing _ _ (sym (reading .read .ensures .refusal) ∙ e) (read-accepted _ _ _ _ _ _ (reading .read .ensures) e .0) (sym (reading .read .ensures .accepted e .traced .nodes) ∙ c .if2 .taken)
 
 slice-aggregate-wide-plan : tie.Need-slice-aggregate-wide-plan
 slice-aggregate-wide-plan c = search needs
@@ -51,10 +51,10 @@ wide-plan-requires c κs =
     let l = reading .read .ensures .accepted e in (
       ok .0,
       (
-        some-root _ (ok .0) _ (l .nodes) (test2 .if2 .left),
+        some-root _ (ok .0) _ (l .traced .nodes) (test2 .if2 .left),
         (
           sizes-listed _ _ _ _ _ l (reading .read .kept .1 .1 .1 .1 .0),
-          (roots-lead _ _ _ _ _ l (test2 .if2 .left), ((reading .read .kept .1 .1 .0, l .listed), (ok .1, l .nodes))),
+          (roots-lead _ _ _ _ (l .traced) (test2 .if2 .left), ((reading .read .kept .1 .1 .0, l .traced .listed), (ok .1, l .traced .nodes))),
         ),
       ),
     )

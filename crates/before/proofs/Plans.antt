@@ -8,16 +8,16 @@ use Rattle.table.specs.Table.{rootOf, chain}
 use Rattle.table.specs.Tree.{tree, treeAt}
 use Rattle.table.specs.Trees.{roots, trees}
 use Rattle.table.specs.Refusal.{refusal}
-use Rattle.table.specs.Before.{refusalBefore}
-use Rattle.table.proofs.Before.{accepted-before, refusalFirst, accepted-first}
+use Rattle.before.specs.Tables.{refusalBefore, refusalFirst}
+use Rattle.before.proofs.Tables.{accepted-before, accepted-first}
 use Rattle.layout.specs.Layout.{Layout, width, height}
 use Rattle.layout.specs.Drawing.{draw}
 use Rattle.layout.specs.Trees.{drawTrees, widthOf, heightOf}
 use Rattle.layout.proofs.Stacked.{one-tree, widthOf-one, heightOf-one}
 use Rattle.drawing.specs.declared.Plan.{Plan}
 use Rattle.drawing.specs.Answer.{storeAll, planOf}
-use Rattle.drawing.specs.Before.{planBefore, AsBefore}
+use Rattle.before.specs.Plans.{planBefore, AsBefore}
 use Rattle.drawing.proofs.Answered.{accepted}
 
 module _ (t : List ℕ) (one : roots t ≡ rootOf t ∷ []) where
   one-layout : drawTrees (trees t) ≡ draw (tree t) ∷ []

@@ -6,11 +6,11 @@ use Prim.Native.Nat.{ℕ}
 use native.Mathlib.Omega.{arith}
 use lib.ListN.{length}
 use Rattle.table.proofs.Causes.{refusal-below}
 use Rattle.verdict.specs.Verdict.{FirstOf, conditions, Verdict}
-use Rattle.verdict.specs.Before.{conditionsBefore, VerdictBefore, Recast}
+use Rattle.before.specs.Verdicts.{conditionsBefore, VerdictBefore, Recast}
 use Rattle.verdict.proofs.Clashes.{cross→clash}
 use Rattle.verdict.proofs.Decide.{decided}
 use Rattle.verdict.proofs.Unique.{answer-unique}
 
 module _ (t p : List ℕ) where
   -- The condition that held first, before.
