@@ -1,2 +1,2 @@
 -- What the library's functions answer to other languages.
-pub mod Packed
+pub mod Bits

@@ -25,10 +25,10 @@ ghost use Rattle.segment.specs.Segment.{at};
 ghost use Rattle.verdict.specs.Verdict.{Verdict};
 ghost use Rattle.width.specs.Allowed.{allowedWidth};
 ghost use Rattle.wide.specs.Wide.{wideOf, widePlacedIn};
-ghost use Rattle.bt.specs.Packed.{packed, packedSaid, overwritten, meetingNumber, Compared};
+ghost use Rattle.bt.specs.Bits.{drawnBits, saidBits, overwritten, meetingNumber, Compared};
 
-fn pack_drawn(drawn: Drawn) -> u64
-    ensures { λ r. ⌜ r ≡ packed drawn ⌝ }
+fn drawn_bits(drawn: Drawn) -> u64
+    ensures { λ r. ⌜ r ≡ drawnBits drawn ⌝ }
 {
     let plan = drawn.plan;
     widened(drawn.refusal)
@@ -39,20 +39,20 @@ fn pack_drawn(drawn: Drawn) -> u64
 
 #[no_mangle]
 pub extern "C" fn bt_draw(table: &[u8], placements: &mut [u16]) -> u64
-    ensures { λ r. ⌜ r ≡ packed (drawnOf (now (table .entry)) (now (placements .entry))) ⌝ }
+    ensures { λ r. ⌜ r ≡ drawnBits (drawnOf (now (table .entry)) (now (placements .entry))) ⌝ }
     ensures { λ r. ⌜ now (placements .exit) ≡ placedIn (now (table .entry)) (now (placements .entry)) ⌝ }
 {
-    pack_drawn(drawing::draw(table, placements))
+    drawn_bits(drawing::draw(table, placements))
 }
 
-// Packed as `bt_draw`; a refusal is its number alone.
+// In bits as `bt_draw`; a refusal is its number alone.
 #[no_mangle]
 pub extern "C" fn bt_draw_wide(table: &[u8], placements: &mut [u16]) -> u64
-    ensures { λ r. ⌜ r ≡ packedSaid (wideOf (now (table .entry)) (now (placements .entry))) ⌝ }
+    ensures { λ r. ⌜ r ≡ saidBits (wideOf (now (table .entry)) (now (placements .entry))) ⌝ }
     ensures { λ r. ⌜ now (placements .exit) ≡ widePlacedIn (now (table .entry)) (now (placements .entry)) ⌝ }
 {
     match draw_wide(table, placements) {
-        Wide::Planned(plan) => pack_drawn(Drawn { refusal: 0, plan }),
+        Wide::Planned(plan) => drawn_bits(Drawn { refusal: 0, plan }),
         Wide::Refused(number) => widened(number),
     }
 }
@@ -125,9 +125,9 @@ fn put_point(point: PenPoint, lent: &mut [f64])
     }
 }
 
-// Writes the point of a stroke, if it has one, and packs what it says.
+// Writes the point of a stroke, if it has one, and answers in bits what it says.
 fn put_stroke(stroke: Stroke, lent: &mut [f64]) -> u32
-    ensures { λ r. ⌜ r ≡ packedSaid (told stroke .said) ⌝ }
+    ensures { λ r. ⌜ r ≡ saidBits (told stroke .said) ⌝ }
     ensures { λ _. ⌜ now (lent .exit) ≡ overwritten (told stroke .point) (now (lent .entry)) ⌝ }
 {
     match stroke {
@@ -153,15 +153,15 @@ pub extern "C" fn bt_stroke(
     number: u64,
     point: &mut [f64],
 ) -> u32
-    ensures { λ r. ⌜ r ≡ packedSaid (strokeOf (now (table .entry)) (now (placements .entry)) pitch number .said) ⌝ }
+    ensures { λ r. ⌜ r ≡ saidBits (strokeOf (now (table .entry)) (now (placements .entry)) pitch number .said) ⌝ }
     ensures { λ _. ⌜ now (point .exit) ≡ overwritten (strokeOf (now (table .entry)) (now (placements .entry)) pitch number .point) (now (point .entry)) ⌝ }
 {
     put_stroke(stroke(table, placements, pitch, number), point)
 }
 
 // What hanging says in one number: the refusal in bits 0 to 15, the record in bits 16 to 31.
-fn pack_hung(answer: Hung) -> u32
-    ensures { λ r. ⌜ r ≡ packedSaid (said answer) ⌝ }
+fn hung_bits(answer: Hung) -> u32
+    ensures { λ r. ⌜ r ≡ saidBits (said answer) ⌝ }
 {
     match answer {
         Hung::Leaf(leaf) => 0x1_0000 * (leaf as u32),
@@ -171,17 +171,17 @@ fn pack_hung(answer: Hung) -> u32
 
 #[no_mangle]
 pub extern "C" fn bt_hang(table: &mut [u8], parent: u16, side: u8, tag: u16) -> u32
-    ensures { λ r. ⌜ r ≡ packedSaid (hangSays (now (table .entry)) parent side) ⌝ }
+    ensures { λ r. ⌜ r ≡ saidBits (hangSays (now (table .entry)) parent side) ⌝ }
     ensures { λ _. ⌜ now (table .exit) ≡ afterHang (now (table .entry)) parent side tag ⌝ }
 {
-    pack_hung(hang(table, parent, side, tag))
+    hung_bits(hang(table, parent, side, tag))
 }
 
 #[no_mangle]
 pub extern "C" fn bt_hold(table: &[u8], parent: u16, side: u8) -> u32
-    ensures { λ r. ⌜ r ≡ packedSaid (hangSays (now (table .entry)) parent side) ⌝ }
+    ensures { λ r. ⌜ r ≡ saidBits (hangSays (now (table .entry)) parent side) ⌝ }
 {
-    pack_hung(hold(table, parent, side))
+    hung_bits(hold(table, parent, side))
 }
 
 #[no_mangle]

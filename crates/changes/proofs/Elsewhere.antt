@@ -1,25 +1,20 @@
--- "Records on neither chain are still allowed and never taken": the calls keep all their words, refused or not (`hang-elsewhere`, `held-elsewhere`, `cut-elsewhere`). Rests on Accepted
--- (`table`), Answering and Places (`hanging`), Hanging, Hooked and Cutting.
+-- "Records on neither chain are still allowed and never taken": any call keeps all their words, refused or not (`never-taken`). Rests on Accepted (`table`), Answering and Places
+-- (`hanging`), Hanging, Hooked and Cutting.
 use mathlib.Core.Path.{_≡_, refl, sym}
 use mathlib.Core.Logic.{_≢_, _⊎_, ⊎-elim, ⊎-map}
 use mathlib.Core.List.{List}
 use Prim.Native.Nat.{ℕ, _<_}
-use Rattle.table.specs.Table.{word, Chained, Free}
+use Rattle.table.specs.Table.{word, Chained}
+use Rattle.table.specs.OffChain.{OnNeither}
 use Rattle.table.proofs.Accepted.{first-free}
-use Rattle.hanging.specs.Hanging.{hangRefusal, hung, afterHang}
-use Rattle.hanging.specs.Holding.{afterHeld}
-use Rattle.hanging.specs.Cutting.{namerOf, holder, cutRefusal, cutOut, afterCut}
+use Rattle.hanging.specs.Hanging.{hangRefusal, hung}
+use Rattle.hanging.specs.Cutting.{namerOf, holder, cutRefusal, cutOut}
 use Rattle.hanging.proofs.Answering.{after-hang, after-held, after-cut}
 use Rattle.hanging.proofs.Places.{hang-place, cuttable}
+use Rattle.changes.specs.Calls.{Call, hang, hold, hangHeld, cut, after}
 use Rattle.changes.proofs.Hanging.{hung-graft}
 use Rattle.changes.proofs.Hooked.{before-cases, hooked}
 use Rattle.changes.proofs.Cutting.{cut-graft}
-
--- On neither chain, and not the head.
-pub record OnNeither (t : List ℕ) (k : ℕ) : Type 0 where
-  pub no-head : k ≢ 0
-  pub unchained : Chained t k → ⊥
-  pub unfree : Free t k → ⊥
 
 module _ (t : List ℕ) (k j : ℕ) (a : OnNeither t k) (low : j < 4) where
   -- Such a record is not the head, nor chained.
@@ -32,17 +27,18 @@ module _ (t : List ℕ) (k j : ℕ) (a : OnNeither t k) (low : j < 4) where
       let off = other parent (p .1 .above) in
       hung-graft t parent side tag z .same k j low (λ q. a .unfree (rw q (first-free t (p .0) (p .2)))) (λ q. a .no-head (q .0)) (λ q. off (q .0)) (λ q. off (q .0))
 
-  pub hang-elsewhere : (parent side tag : ℕ) → word (afterHang t parent side tag) k j ≡ word t k j
-  hang-elsewhere parent side tag = after-hang t parent side (λ u. word u k j ≡ word t k j) tag (hung-elsewhere parent side tag) refl
+  cut-elsewhere : (n : ℕ) → cutRefusal t n ≡ 0 → word (cutOut t n) k j ≡ word t k j
+  cut-elsewhere n z =
+      let c = cuttable t n z in
+      let before : k ≢ namerOf t 0 n = other (namerOf t 0 n) (⊎-map (λ (z : namerOf t 0 n ≡ 0). (z, z)) (λ (m : Chained t (namerOf t 0 n)). m) (before-cases c)) in
+      sym (cut-graft c .same k j low (λ q. a .unchained (rw q (c .leaf))) (λ q. a .no-head (q .0)) (λ q. before (q .0)) (λ q. other (holder t n) (hooked c .holder) (q .0)))
 
-  pub held-elsewhere : (parent side tag held : ℕ) → word (afterHeld t parent side tag held) k j ≡ word t k j
-  held-elsewhere parent side tag held = after-held t parent side held (λ u. word u k j ≡ word t k j) tag (hung-elsewhere parent side tag) refl
+  abbrev Same : List ℕ → Type 0
+  Same u = word u k j ≡ word t k j
 
-  pub cut-elsewhere : (n : ℕ) → word (afterCut t n) k j ≡ word t k j
-  cut-elsewhere n = after-cut t n (λ u. word u k j ≡ word t k j) done refl
-    where
-      done : cutRefusal t n ≡ 0 → word (cutOut t n) k j ≡ word t k j
-      done z =
-          let c = cuttable t n z in
-          let before : k ≢ namerOf t 0 n = other (namerOf t 0 n) (⊎-map (λ (z : namerOf t 0 n ≡ 0). (z, z)) (λ (m : Chained t (namerOf t 0 n)). m) (before-cases c)) in
-          sym (cut-graft c .same k j low (λ q. a .unchained (rw q (c .leaf))) (λ q. a .no-head (q .0)) (λ q. before (q .0)) (λ q. other (holder t n) (hooked c .holder) (q .0)))
+  pub never-taken : (c : Call) → word (after c t) k j ≡ word t k j
+  unfolding after
+  never-taken (hang parent side tag) = after-hang t parent side Same tag (hung-elsewhere parent side tag) refl
+  never-taken (hold parent side) = refl
+  never-taken (hangHeld parent side tag held) = after-held t parent side held Same tag (hung-elsewhere parent side tag) refl
+  never-taken (cut node) = after-cut t node Same (cut-elsewhere node) refl

@@ -12,6 +12,7 @@ use borrow.Author.Tests.{eqb-true}
 use Rattle.table.specs.Lists.{member}
 use Rattle.table.specs.Table.{records, word, nextOf, chain, Chained, firstFree, free, Free, Empty}
 use Rattle.table.specs.Refusal.{fault}
+use Rattle.table.specs.Said.{keptOnRefusal}
 use Rattle.table.specs.OffChain.{OffChain}
 use Rattle.table.specs.Writing.{Write, written}
 use Rattle.table.proofs.Lists.{member-cons}
@@ -124,7 +125,7 @@ module _ {t u : List ℕ} (h : OffChain t u) where
       freed m n = ⊎-elim (λ (e : m ≡ k). inl (rw e (c .leaf))) (λ (f : Free t m). inr f) (member-cons m k (free t) .0 (rw (l .given) at n))
 
   -- After a call, whether it was refused or not: it is refused on both or on neither.
-  either-off : (n m : ℕ) (a b : List ℕ) → m ≡ n → (n ≡ 0 → OffChain a b) → OffChain (elim (eqb n 0) [ true ↦ a | false ↦ t ]) (elim (eqb m 0) [ true ↦ b | false ↦ u ])
+  either-off : (n m : ℕ) (a b : List ℕ) → m ≡ n → (n ≡ 0 → OffChain a b) → OffChain (keptOnRefusal n a t) (keptOnRefusal m b u)
   either-off n m a b e done = rw e (go (eqb n 0) refl)
     where
       go : (c : Bool) → eqb n 0 ≡ c → OffChain (elim c [ true ↦ a | false ↦ t ]) (elim c [ true ↦ b | false ↦ u ])

@@ -2,9 +2,9 @@
 mod place;
 
 use crate::place::draw_tree;
+use records::read;
 use roles::most;
 use roles::prepare;
-use records::read;
 ghost use mathlib.Core.Path.{_≡_};
 ghost use Prim.Native.Nat.{_*_, _≤_};
 ghost use lib.ListN.{length};

@@ -1,9 +1,9 @@
 // The lines of the text: a refusal's, a plan's, and a line a node.
+use drawing::Plan;
 use fields::put_decimal;
 use fields::put_last;
 use fields::put_three;
 use fields::put_word;
-use drawing::Plan;
 use records::words::next;
 use records::words::tag;
 ghost use mathlib.Core.Path.{_≡_};

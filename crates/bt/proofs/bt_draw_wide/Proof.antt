@@ -1,4 +1,4 @@
--- `bt::bt_draw_wide` meets its contract: what `draw_wide` says, packed.
+-- `bt::bt_draw_wide` meets its contract: what `draw_wide` says, in bits.
 use mathlib.Core.Path.{_≡_, sym, ap, _∙_}
 use Prim.Native.Nat.{ℕ}
 use native.Mathlib.Omega.{arith}
@@ -8,7 +8,7 @@ use Rattle.drawing.specs.declared.Plan.{Plan}
 use Rattle.wide.specs.declared.Wide.{Wide}
 use Rattle.wide.specs.declared.Wide.the-variants.{Planned, Refused}
 use Rattle.wide.specs.Wide.{said}
-use Rattle.bt.specs.Packed.{packed, packedSaid}
+use Rattle.bt.specs.Bits.{drawnBits, saidBits}
 use Rattle.bt.proofs.bt_draw_wide.Statement.{statement}
 use Rattle.bt.proofs.bt_draw_wide.Tie as tie
 
@@ -18,8 +18,8 @@ draw-wide-requires c κs = search needs
 enum-known-plan : tie.Need-enum-known-plan
 enum-known-plan c = search needs
 
-pack-drawn-requires : tie.Need-pack-drawn-requires
-pack-drawn-requires c κs = search needs
+drawn-bits-requires : tie.Need-drawn-bits-requires
+drawn-bits-requires c κs = search needs
 
 enum-known-number : tie.Need-enum-known-number
 enum-known-number c = search needs
@@ -31,18 +31,18 @@ same-length : tie.Need-same-length
 same-length c = search needs
 
 -- A plan, and a refusal.
-plan-packed : (w : Wide) (a : Plan) (s : Said) (r : ℕ) → w ≡ Planned a → said w ≡ s → r ≡ packed (record { refusal = 0; plan = a }) → r ≡ packedSaid s
+plan-bits : (w : Wide) (a : Plan) (s : Said) (r : ℕ) → w ≡ Planned a → said w ≡ s → r ≡ drawnBits (record { refusal = 0; plan = a }) → r ≡ saidBits s
 unfolding said
-plan-packed w a s r told says e = e ∙ ap packedSaid (sym (ap said told) ∙ says)
+plan-bits w a s r told says e = e ∙ ap saidBits (sym (ap said told) ∙ says)
 
-refusal-packed : (w : Wide) (n : ℕ) (s : Said) (r : ℕ) → w ≡ Refused n → said w ≡ s → r ≡ n → r ≡ packedSaid s
+refusal-bits : (w : Wide) (n : ℕ) (s : Said) (r : ℕ) → w ≡ Refused n → said w ≡ s → r ≡ n → r ≡ saidBits s
 unfolding said
-refusal-packed w n s r told says e = e ∙ (omega arith ∙ ap packedSaid (sym (ap said told) ∙ says))
+refusal-bits w n s r told says e = e ∙ (omega arith ∙ ap saidBits (sym (ap said told) ∙ says))
 
 returns : tie.Need-returns
 returns c =
     let d = c .before .before .before .before .before .before in
-    (plan-packed _ _ _ _ (c .before .before .plan .given .1) (d .draw-wide .ensures .0) (c .pack-drawn .ensures), d .draw-wide .ensures .1)
+    (plan-bits _ _ _ _ (c .before .before .plan .given .1) (d .draw-wide .ensures .0) (c .drawn-bits .ensures), d .draw-wide .ensures .1)
 
 same-length-2 : tie.Need-same-length-2
 same-length-2 c = search needs
@@ -50,7 +50,7 @@ same-length-2 c = search needs
 returns-2 : tie.Need-returns-2
 returns-2 c =
     let d = c .before .before .before .before .before .before in
-    (refusal-packed _ _ _ _ (c .before .before .number .given .1) (d .draw-wide .ensures .0) (c .widened .ensures .0), d .draw-wide .ensures .1)
+    (refusal-bits _ _ _ _ (c .before .before .number .given .1) (d .draw-wide .ensures .0) (c .widened .ensures .0), d .draw-wide .ensures .1)
 
 pub bt-draw-wide-spec : {M : Type 1} → statement M
 bt-draw-wide-spec =
@@ -58,7 +58,7 @@ bt-draw-wide-spec =
     (tie.spec
     draw-wide-requires
     enum-known-plan
-    pack-drawn-requires
+    drawn-bits-requires
     enum-known-number
     widened-requires
     same-length

@@ -1,6 +1,6 @@
--- `bt::bt_hold` meets its contract: what `hold` says, packed.
+-- `bt::bt_hold` meets its contract: what `hold` says, in bits.
 use mathlib.Core.Path.{ap, _∙_}
-use Rattle.bt.specs.Packed.{packedSaid}
+use Rattle.bt.specs.Bits.{saidBits}
 use borrow.Author.Needs.{needs}
 use Rattle.bt.proofs.bt_hold.Statement.{statement}
 use Rattle.bt.proofs.bt_hold.Tie as tie
@@ -8,11 +8,11 @@ use Rattle.bt.proofs.bt_hold.Tie as tie
 hold-requires : tie.Need-hold-requires
 hold-requires c κs = search needs
 
-pack-hung-requires : tie.Need-pack-hung-requires
-pack-hung-requires c κs = search needs
+hung-bits-requires : tie.Need-hung-bits-requires
+hung-bits-requires c κs = search needs
 
 returns : tie.Need-returns
-returns c = c .pack-hung .ensures ∙ ap packedSaid (c .before .hold .ensures)
+returns c = c .hung-bits .ensures ∙ ap saidBits (c .before .hold .ensures)
 
 pub bt-hold-spec : {M : Type 1} → statement M
-bt-hold-spec = tie.close (tie.spec hold-requires pack-hung-requires returns)
+bt-hold-spec = tie.close (tie.spec hold-requires hung-bits-requires returns)

@@ -7,7 +7,7 @@ use lib.ListN.{length, set}
 use lib.Ieee.{Float}
 use borrow.Author.Tests.{le-leb, lt-leb}
 use borrow.Author.Needs.{needs}
-use Rattle.bt.specs.Packed.{overwritten}
+use Rattle.bt.specs.Bits.{overwritten}
 use Rattle.bt.proofs.put_point.Statement.{statement}
 use Rattle.bt.proofs.put_point.Tie as tie
 

@@ -1,14 +1,14 @@
--- `pack_hung` packs what an answer of hanging says.
+-- `hung_bits`: what an answer of hanging says, in bits.
 use mathlib.Core.Path.{_≡_, sym, ap, _∙_}
 use Prim.Native.Nat.{ℕ, _*_}
 use native.Mathlib.Omega.{arith}
 use Rattle.hanging.specs.declared.Hung.{Hung}
 use Rattle.hanging.specs.declared.Hung.the-variants.{Leaf, Refused}
 use Rattle.hanging.specs.Hanging.{said}
-use Rattle.bt.specs.Packed.{packedSaid}
+use Rattle.bt.specs.Bits.{saidBits}
 use borrow.Author.Needs.{needs}
-use Rattle.bt.proofs.pack_hung.Statement.{statement}
-use Rattle.bt.proofs.pack_hung.Tie as tie
+use Rattle.bt.proofs.hung_bits.Statement.{statement}
+use Rattle.bt.proofs.hung_bits.Tie as tie
 
 enum-known-answer : tie.Need-enum-known-answer
 enum-known-answer c = search needs
@@ -26,22 +26,22 @@ cast-result-2 : tie.Need-cast-result-2
 cast-result-2 c = search needs
 
 -- A leaf, and a refusal.
-leaf-packed : (h : Hung) (k : ℕ) → h ≡ Leaf k → 65536 * k ≡ packedSaid (said h)
+leaf-bits : (h : Hung) (k : ℕ) → h ≡ Leaf k → 65536 * k ≡ saidBits (said h)
 unfolding said
-leaf-packed h k told = omega arith ∙ ap (λ (a : Hung). packedSaid (said a)) (sym told)
+leaf-bits h k told = omega arith ∙ ap (λ (a : Hung). saidBits (said a)) (sym told)
 
-refusal-packed : (h : Hung) (n : ℕ) → h ≡ Refused n → n ≡ packedSaid (said h)
+refusal-bits : (h : Hung) (n : ℕ) → h ≡ Refused n → n ≡ saidBits (said h)
 unfolding said
-refusal-packed h n told = omega arith ∙ ap (λ (a : Hung). packedSaid (said a)) (sym told)
+refusal-bits h n told = omega arith ∙ ap (λ (a : Hung). saidBits (said a)) (sym told)
 
 returns : tie.Need-returns
-returns c = leaf-packed _ _ (c .before .answer .given .1)
+returns c = leaf-bits _ _ (c .before .answer .given .1)
 
 returns-2 : tie.Need-returns-2
-returns-2 c = refusal-packed _ _ (c .before .answer2 .given .1)
+returns-2 c = refusal-bits _ _ (c .before .answer2 .given .1)
 
-pub pack-hung-spec : {M : Type 1} → statement M
-pack-hung-spec =
+pub hung-bits-spec : {M : Type 1} → statement M
+hung-bits-spec =
     tie.close
     (tie.spec
     enum-known-answer

@@ -1,0 +1,2 @@
+-- The law of each promise.
+pub mod Promises

@@ -1,0 +1,2 @@
+-- The page of promises.
+pub mod Promises
