@@ -28,7 +28,7 @@ use Rattle.layout.proofs.Stacked.{width-first, height-first}
 use Rattle.roles.specs.inner.Sized.{Sized}
 use Rattle.roles.specs.inner.Prepared.{Prepared}
 use Rattle.drawing.specs.Answer.{store, storeAll}
-use Rattle.drawing.specs.inner.Placing.{Hanging, Hung, Led, TreesDrawn}
+use Rattle.drawing.specs.inner.Placing.{Drawable, SubtreeDrawn, Led, TreesDrawn}
 use Rattle.drawing.proofs.Whole.{few-nodes}
 
 -- The trees from root i on.
@@ -127,8 +127,8 @@ module _ (t : List ℕ) (ok : fault t ≡ 0) (c : Chained t (rootOf t)) where
       stack-taken sizes z = rw (stack-sized sizes z) stack-size
 
       -- It may be drawn from any row down to the next one.
-      pub stack-hanging : (roles widest : List ℕ) (r : ℕ) → r ≤ top → Prepared roles widest left (treeAt t (getD order i 0)) → Hanging t roles widest left (getD order i 0) 0 0 r
-      stack-hanging roles widest r h q =
+      pub stack-drawable : (roles widest : List ℕ) (r : ℕ) → r ≤ top → Prepared roles widest left (treeAt t (getD order i 0)) → Drawable t roles widest left (getD order i 0) 0 0 r
+      stack-drawable roles widest r h q =
           let few : size (treeAt t (getD order i 0)) ≤ 4096 = omega (arith, size-below t ok (getD order i 0) stack-chained, few-nodes t ok) in
           record {
             named = inr stack-chained;
@@ -137,7 +137,7 @@ module _ (t : List ℕ) (ok : fault t ≡ 0) (c : Chained t (rootOf t)) where
             rows = omega (arith, height-size left (treeAt t (getD order i 0)), stack-size, g .room, few-nodes t ok);
           }
 
-      pub stack-step : (sizes : List ℕ) → Sized t sizes → (v below n : ℕ) (p′ : List ℕ) → v ≡ max w (widthOn left (treeAt t (getD order i 0))) → Hung t left (getD order i 0) 0 top p below p′ → n ≡ unplaced - getD sizes (getD order i 0) 0 →
+      pub stack-step : (sizes : List ℕ) → Sized t sizes → (v below n : ℕ) (p′ : List ℕ) → v ≡ max w (widthOn left (treeAt t (getD order i 0))) → SubtreeDrawn t left (getD order i 0) 0 top p below p′ → n ≡ unplaced - getD sizes (getD order i 0) 0 →
           length p′ ≡ length p → Stacking t p₀ v below n (i + 1) p′
       unfolding widthOn heightOn facing
       stack-step sizes z v below n p′ wide d e long =

@@ -26,7 +26,7 @@ use Rattle.roles.proofs.Spines.{chained}
 use Rattle.roles.proofs.Frames.{once}
 use Rattle.drawing.specs.Answer.{store}
 use Rattle.drawing.specs.declared.place.Walk.{Walk}
-use Rattle.drawing.specs.inner.Placing.{Hanging, Hung, kept, finish, finished, handAt, spineFrom, Going, unplaced, Stepped, rowBelow, remaining}
+use Rattle.drawing.specs.inner.Placing.{Drawable, SubtreeDrawn, kept, finish, finished, handAt, spineFrom, Going, unplaced, Stepped, rowBelow, remaining}
 use Rattle.drawing.proofs.Shapes.{width-node}
 use Rattle.drawing.proofs.Columns.{side-same}
 use Rattle.drawing.proofs.Onward.{finished-none}
@@ -41,9 +41,9 @@ some-node : (t : List ℕ) → fault t ≡ 0 → (k : ℕ) → Chained t k → 0
 unfolding size
 some-node t ok k c = omega (arith, ap size (tree-unfolds t ok k c))
 
-pub hung-nothing : (t : List ℕ) (s : Side) (k e top : ℕ) (p : List ℕ) → k ≡ 0 → Hung t s k e top p top p
+pub nothing-drawn : (t : List ℕ) (s : Side) (k e top : ℕ) (p : List ℕ) → k ≡ 0 → SubtreeDrawn t s k e top p top p
 unfolding store
-hung-nothing t s k e top p z = record {
+nothing-drawn t s k e top p z = record {
   ends = omega (arith, ap (heightOn s) nothing, height-none s);
   stored = sym (ap (λ (T : Tree). store (hungOn s e top T) p) nothing ∙ ap (λ (L : Layout). store L p) (hung-none s e top));
 }
@@ -54,19 +54,19 @@ hung-nothing t s k e top p z = record {
 -- ---- code has the side as a bool
 
 -- A node's drawing has a column, where its edge is.
-pub column-hung : (t roles widest : List ℕ) (s : Side) (k e c top : ℕ) → fault t ≡ 0 → 0 < k → Hanging t roles widest s k e c top → Inside 65536 s e (c + 1)
-column-hung t roles widest s k e c top ok h g = inside-less 65536 s e (omega (arith, width-node s (treeAt t k) (some-node t ok k (named-node t k (g .named) h)))) (g .columns)
+pub column-drawn : (t roles widest : List ℕ) (s : Side) (k e c top : ℕ) → fault t ≡ 0 → 0 < k → Drawable t roles widest s k e c top → Inside 65536 s e (c + 1)
+column-drawn t roles widest s k e c top ok h g = inside-less 65536 s e (omega (arith, width-node s (treeAt t k) (some-node t ok k (named-node t k (g .named) h)))) (g .columns)
 
-pub hanging-side : (t roles widest : List ℕ) (b d : Bool) (k e c top edge : ℕ) → b ≡ d → edge ≡ inwards (sideOf b) e c → Hanging t roles widest (sideOf b) k e c top → Hanging t roles widest (sideOf d) k edge 0 top
-hanging-side t roles widest b d k e c top edge q r h = subst (λ (x : Bool). Hanging t roles widest (sideOf x) k edge 0 top) q (record {
+pub drawable-side : (t roles widest : List ℕ) (b d : Bool) (k e c top edge : ℕ) → b ≡ d → edge ≡ inwards (sideOf b) e c → Drawable t roles widest (sideOf b) k e c top → Drawable t roles widest (sideOf d) k edge 0 top
+drawable-side t roles widest b d k e c top edge q r h = subst (λ (x : Bool). Drawable t roles widest (sideOf x) k edge 0 top) q (record {
   named = h .named;
   prepared = h .prepared;
   columns = rw r (inside-less 65536 (sideOf b) _ (omega arith) (hung-inside 65536 (sideOf b) e c _ (h .columns)));
   rows = h .rows;
 })
 
-pub hung-side : (t : List ℕ) (b d : Bool) (k e c top below edge : ℕ) (p p′ : List ℕ) → b ≡ d → edge ≡ inwards (sideOf b) e c → Hung t (sideOf d) k edge top p below p′ → Hung t (sideOf b) k (inwards (sideOf b) e c) top p below p′
-hung-side t b d k e c top below edge p p′ q r h = subst₂ (λ (x : Bool) (n : ℕ). Hung t (sideOf x) k n top p below p′) (sym q) r h
+pub drawn-side : (t : List ℕ) (b d : Bool) (k e c top below edge : ℕ) (p p′ : List ℕ) → b ≡ d → edge ≡ inwards (sideOf b) e c → SubtreeDrawn t (sideOf d) k edge top p below p′ → SubtreeDrawn t (sideOf b) k (inwards (sideOf b) e c) top p below p′
+drawn-side t b d k e c top below edge p p′ q r h = subst₂ (λ (x : Bool) (n : ℕ). SubtreeDrawn t (sideOf x) k n top p below p′) (sym q) r h
 
 -- ---- the end
 
@@ -83,8 +83,8 @@ module _ (t roles widest : List ℕ) (w : Walk) (ended : w .at ≡ 0) where
   unfolding finished finish kept lay store
   remaining-end o p = ap (λ (ls : List SpineNode). finished (w .widest) (handAt w) (w .edge) o (w .lowest) (w .row) (treeAt t (w .pending)) ls p) no-spine-left
 
-  pub hanging-end : (o : Role) → Going t roles widest o w → Hanging t roles widest (handAt w) (w .pending) (w .edge) 1 (w .lowest + 1)
-  hanging-end o g = record { named = g .named-pending; prepared = g .ready .prepared; columns = g .ready .spare; rows = omega (arith, g .ready .rows, bottom-end o) }
+  pub drawable-end : (o : Role) → Going t roles widest o w → Drawable t roles widest (handAt w) (w .pending) (w .edge) 1 (w .lowest + 1)
+  drawable-end o g = record { named = g .named-pending; prepared = g .ready .prepared; columns = g .ready .spare; rows = omega (arith, g .ready .rows, bottom-end o) }
 
 -- ---- the start
 
@@ -95,7 +95,7 @@ spine-widest (a-spine e l) = e
 spine-along : {roles widest : List ℕ} {s : Side} {k : ℕ} {a b : Tree} → Prepared roles widest s (node k a b) → Along roles widest s knee (spineOn s (node k a b))
 spine-along (a-spine e l) = l
 
-module _ (t roles widest : List ℕ) (ok : fault t ≡ 0) (b : Bool) (root edge top : ℕ) (g : Hanging t roles widest (sideOf b) root edge 0 top) (node-there : 0 < root) where
+module _ (t roles widest : List ℕ) (ok : fault t ≡ 0) (b : Bool) (root edge top : ℕ) (g : Drawable t roles widest (sideOf b) root edge 0 top) (node-there : 0 < root) where
   abbrev s : Side
   s = sideOf b
 
@@ -157,8 +157,8 @@ module _ (t roles widest : List ℕ) (ok : fault t ≡ 0) (b : Bool) (root edge 
     pub going-start : Going t roles widest knee (start r)
     going-start = subst (λ (x : Bool). Going t roles widest knee (start x)) (hand-start r h) going-here
 
-    pub hung-start : (p p′ : List ℕ) (below : ℕ) → (below ≡ rowBelow t knee (start r)) × (p′ ≡ remaining t knee (start r) p) → Hung t s root edge top p below p′
-    hung-start p p′ below e =
+    pub drawn-start : (p p′ : List ℕ) (below : ℕ) → (below ≡ rowBelow t knee (start r)) × (p′ ≡ remaining t knee (start r) p) → SubtreeDrawn t s root edge top p below p′
+    drawn-start p p′ below e =
         let m = hand-start r h in
         record { ends = e .0 ∙ (ap (λ (x : Bool). rowBelow t knee (start x)) (sym m) ∙ bottom-start); stored = e .1 ∙ (ap (λ (x : Bool). remaining t knee (start x) p) (sym m) ∙ remaining-start p) }
 
@@ -200,6 +200,6 @@ module _ (t roles widest : List ℕ) where
   }
 
   pub walked-end : (p₀ : List ℕ) (w₀ : Walk) (p : List ℕ) (w : Walk) (p′ : List ℕ) (below : ℕ) → (g : SoFar t roles widest p₀ w₀ p w) → w .at ≡ 0 →
-      Hung t (handAt w) (w .pending) (inwards (handAt w) (w .edge) 1) (w .lowest + 1) p below p′ → (below ≡ rowBelow t knee w₀) × (p′ ≡ remaining t knee w₀ p₀)
+      SubtreeDrawn t (handAt w) (w .pending) (inwards (handAt w) (w .edge) 1) (w .lowest + 1) p below p′ → (below ≡ rowBelow t knee w₀) × (p′ ≡ remaining t knee w₀ p₀)
   walked-end p₀ w₀ p w p′ below g z d =
       (d .ends ∙ (sym (bottom-end t roles widest w z (g .role)) ∙ g .as-deep), d .stored ∙ (sym (remaining-end t roles widest w z (g .role) p) ∙ g .same))

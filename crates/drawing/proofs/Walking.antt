@@ -26,7 +26,7 @@ use Rattle.roles.specs.inner.Roles.{isSwitch, isKnee, handOf, roleOf}
 use Rattle.roles.proofs.Choices.{code-same, code-small}
 use Rattle.drawing.specs.Answer.{store}
 use Rattle.drawing.specs.declared.place.Walk.{Walk}
-use Rattle.drawing.specs.inner.Placing.{Given, Hanging, Hung, finished, Ready, walkTo, handAt, Going, Stepped}
+use Rattle.drawing.specs.inner.Placing.{Given, Drawable, SubtreeDrawn, finished, Ready, walkTo, handAt, Going, Stepped}
 use Rattle.drawing.proofs.Shapes.{Disjoint}
 use Rattle.drawing.proofs.Columns.{inside-edge, inside-count}
 use Rattle.drawing.proofs.Onward.{knee-far, knee-near, ordinary-on, switch-over, bottom-far, bottom-near, bottom-over, along-role, along-hung, along-next, goes-on, at-knee-room, at-ordinary-room, at-switch-width, at-switch-room, ready-far, ready-near, ready-ordinary, ready-switch, rows-far, rows-knee, rows-ordinary, rows-switch}
@@ -44,8 +44,8 @@ entry-within t sizes roles widest p g k (inr c) = omega (arith, g .enough, chain
 pub given-kept : (t sizes roles widest p p′ : List ℕ) → length p′ ≡ length p → Given t sizes roles widest p → Given t sizes roles widest p′
 given-kept t sizes roles widest p p′ e g = record { sound = g .sound; sized = g .sized; long-roles = g .long-roles; long-widest = g .long-widest; enough = omega (arith, g .enough) }
 
-pub hanging-as : (t roles widest : List ℕ) (s : Side) (k e c top top′ : ℕ) → top′ ≡ top → Hanging t roles widest s k e c top → Hanging t roles widest s k e c top′
-hanging-as t roles widest s k e c top top′ q h = subst (Hanging t roles widest s k e c) (sym q) h
+pub drawable-as : (t roles widest : List ℕ) (s : Side) (k e c top top′ : ℕ) → top′ ≡ top → Drawable t roles widest s k e c top → Drawable t roles widest s k e c top′
+drawable-as t roles widest s k e c top top′ q h = subst (Drawable t roles widest s k e c) (sym q) h
 
 -- ---- roles as the code reads them
 
@@ -193,8 +193,8 @@ module _ (t roles widest : List ℕ) (w : Walk) (spine hung : ℕ) (h : Side) (f
   pub edge-knee : Going t roles widest knee w → (w .edge < 65536) × (H + 1 ≤ 65536)
   edge-knee g = (inside-edge a (w .edge) _ (inside-less 65536 a (w .edge) {v = 1} (omega arith) (at-knee-room (here knee g .rooms))), rows-knee roles widest (w .widest) a (w .edge) _ _ (w .at) h S Q _ (here knee g))
 
-  pub hanging-far : far a h ≡ true → Going t roles widest knee w → Hanging t roles widest a hung (w .edge) 1 (H + 1)
-  hanging-far e g = record {
+  pub drawable-far : far a h ≡ true → Going t roles widest knee w → Drawable t roles widest a hung (w .edge) 1 (H + 1)
+  drawable-far e g = record {
     named = f .named-hung;
     prepared = along-hung (here knee g .along);
     columns = at-knee-room (here knee g .rooms);
@@ -207,8 +207,8 @@ module _ (t roles widest : List ℕ) (w : Walk) (spine hung : ℕ) (h : Side) (f
   pub rows-at-ordinary : Going t roles widest ordinary w → w .row + heightOn a S + 1 ≤ 65536
   rows-at-ordinary g = rows-ordinary roles widest (w .widest) a (w .edge) _ _ (w .at) h S Q _ (here ordinary g)
 
-  pub hanging-ordinary : Going t roles widest ordinary w → Hanging t roles widest a hung (w .edge) 2 (w .row + 1)
-  hanging-ordinary g = record {
+  pub drawable-ordinary : Going t roles widest ordinary w → Drawable t roles widest a hung (w .edge) 2 (w .row + 1)
+  drawable-ordinary g = record {
     named = f .named-hung;
     prepared = along-hung (here ordinary g .along);
     columns = at-ordinary-room (here ordinary g .rooms);
@@ -224,23 +224,23 @@ module _ (t roles widest : List ℕ) (w : Walk) (spine hung : ℕ) (h : Side) (f
   pub rows-at-switch : Going t roles widest switch w → w .row + heightOn a S + heightOn a Q + 1 ≤ 65536
   rows-at-switch g = rows-switch roles widest (w .widest) a (w .edge) _ _ (w .at) h S Q _ (here switch g)
 
-  pub hanging-switch : Going t roles widest switch w → Hanging t roles widest a hung (w .edge) 1 (w .row + 1)
-  hanging-switch g = record {
+  pub drawable-switch : Going t roles widest switch w → Drawable t roles widest a hung (w .edge) 1 (w .row + 1)
+  drawable-switch g = record {
     named = f .named-hung;
     prepared = along-hung (here switch g .along);
     columns = inside-less 65536 a (w .edge) (omega (arith, at-switch-width (here switch g .rooms))) (at-switch-room (here switch g .rooms));
     rows = omega (arith, rows-at-switch g);
   }
 
-  pub hanging-pending : Going t roles widest switch w → Hanging t roles widest a (w .pending) (w .edge) 1 (w .row + 1 + heightOn a S)
-  hanging-pending g = record { named = g .named-pending; prepared = g .ready .prepared; columns = g .ready .spare; rows = omega (arith, rows-at-switch g) }
+  pub drawable-pending : Going t roles widest switch w → Drawable t roles widest a (w .pending) (w .edge) 1 (w .row + 1 + heightOn a S)
+  drawable-pending g = record { named = g .named-pending; prepared = g .ready .prepared; columns = g .ready .spare; rows = omega (arith, rows-at-switch g) }
 
   -- ---- what the code leaves
 
   stepped-as : (o : Role) (p : List ℕ) (w₁ w₂ : Walk) (p₁ p₂ : List ℕ) → w₂ ≡ w₁ → p₂ ≡ p₁ → Stepped t roles widest o w p w₁ p₁ → Stepped t roles widest o w p w₂ p₂
   stepped-as o p w₁ w₂ p₁ p₂ d e m = subst₂ (Stepped t roles widest o w p) (sym d) (sym e) m
 
-  pub after-far : (p p₁ p₂ : List ℕ) (low below : ℕ) (w′ : Walk) → low ≡ H → p₁ ≡ withPoint (w .at) (w .edge) (w .row) p → Hung t a hung (inwards a (w .edge) 1) (low + 1) p₁ below p₂ →
+  pub after-far : (p p₁ p₂ : List ℕ) (low below : ℕ) (w′ : Walk) → low ≡ H → p₁ ≡ withPoint (w .at) (w .edge) (w .row) p → SubtreeDrawn t a hung (inwards a (w .edge) 1) (low + 1) p₁ below p₂ →
       w′ ≡ walkTo w spine below (below - 1) 0 (w .right) (w .edge) → far a h ≡ true → Going t roles widest knee w → Stepped t roles widest knee w p w′ p₂
   after-far p p₁ p₂ low below w′ l q d v x g =
       stepped-as knee p _ _ _ _ (v ∙ ap₂ (λ (m n : ℕ). walkTo w spine m n 0 (w .right) (w .edge)) (omega (arith, d .ends)) (omega (arith, d .ends)))
@@ -251,14 +251,14 @@ module _ (t roles widest : List ℕ) (w : Walk) (spine hung : ℕ) (h : Side) (f
   after-near p p₁ low w′ l q v x g = stepped-as knee p _ _ _ _ (v ∙ ap (λ (m : ℕ). walkTo w spine (m + 1) m hung (w .right) (w .edge)) l) q (stepped-near p x g)
 
   pub after-ordinary : (p p₁ p₂ : List ℕ) (column below next : ℕ) (w′ : Walk) → column ≡ inwards a (w .edge) 1 → p₁ ≡ withPoint (w .at) column (w .row) p →
-      Hung t a hung (inwards a (w .edge) 2) (w .row + 1) p₁ below p₂ → next ≡ max (w .row + 1) (below - 1) → w′ ≡ walkTo w spine next (below - 1) (w .pending) (w .right) (w .edge) →
+      SubtreeDrawn t a hung (inwards a (w .edge) 2) (w .row + 1) p₁ below p₂ → next ≡ max (w .row + 1) (below - 1) → w′ ≡ walkTo w spine next (below - 1) (w .pending) (w .right) (w .edge) →
       Going t roles widest ordinary w → Stepped t roles widest ordinary w p w′ p₂
   after-ordinary p p₁ p₂ column below next w′ c q d n v g =
       stepped-as ordinary p _ _ _ _ (v ∙ ap₂ (λ (m n : ℕ). walkTo w spine m n (w .pending) (w .right) (w .edge)) (omega (arith, d .ends)) (omega (arith, d .ends)))
       (d .stored ∙ cc) (stepped-ordinary p g)
 
-  pub after-switch : (p p₁ p₂ p₃ : List ℕ) (column under below other : ℕ) (b : Bool) → column ≡ inwards a (w .edge) 1 → p₁ ≡ withPoint (w .at) column (w .row) p → Hung t a hung (inwards a (w .edge) 1) (w .row + 1) p₁ under p₂ →
-      Hung t a (w .pending) (inwards a (w .edge) 1) under p₂ below p₃ → other ≡ inwards a (w .edge) (w .widest + 2) → sideOf b ≡ opposite a → Going t roles widest switch w →
+  pub after-switch : (p p₁ p₂ p₃ : List ℕ) (column under below other : ℕ) (b : Bool) → column ≡ inwards a (w .edge) 1 → p₁ ≡ withPoint (w .at) column (w .row) p → SubtreeDrawn t a hung (inwards a (w .edge) 1) (w .row + 1) p₁ under p₂ →
+      SubtreeDrawn t a (w .pending) (inwards a (w .edge) 1) under p₂ below p₃ → other ≡ inwards a (w .edge) (w .widest + 2) → sideOf b ≡ opposite a → Going t roles widest switch w →
       Stepped t roles widest switch w p (walkTo w spine (w .row + 1) (below - 1) 0 b other) p₃
   after-switch p p₁ p₂ p₃ column under below other b c q d d′ o e g =
       stepped-as switch p _ _ _ _ (ap₂ (λ (m n : ℕ). walkTo w spine (w .row + 1) m 0 b n) (omega (arith, d .ends, d′ .ends)) o)

@@ -17,7 +17,7 @@ ghost use Rattle.layout.specs.Spine.{Role as LayoutRole, knee, ordinary, switch
 ghost use Rattle.layout.specs.inner.Held.{inwards as inwardsOf, far, Inside};
 ghost use Rattle.roles.specs.Chosen.{sideOf};
 ghost use Rattle.roles.specs.inner.Forked.{Forked};
-ghost use Rattle.drawing.specs.inner.Placing.{handAt, walkTo, Given, Hanging, Hung, Going, Stepped};
+ghost use Rattle.drawing.specs.inner.Placing.{handAt, walkTo, Given, Drawable, SubtreeDrawn, Going, Stepped};
 
 // A walk along the spine of a drawing: the next node and its row, the lowest row used so far, the pending child, 0 for none; the hand that the node
 // is on, by its role, and that hand's edge; W of the spine, and whether its drawing is on the right side.
@@ -186,9 +186,9 @@ fn draw_spine(
     mirrored: bool,
 ) -> usize
     requires { ⌜ Given (now table) (now sizes) (now roles) (now widest) (now points) ⌝ }
-    requires { ⌜ Hanging (now table) (now roles) (now widest) (sideOf mirrored) root edge 0 top ⌝ }
+    requires { ⌜ Drawable (now table) (now roles) (now widest) (sideOf mirrored) root edge 0 top ⌝ }
     requires { ⌜ 0 < root ⌝ }
-    ensures { λ r. ⌜ Hung (now (table .entry)) (sideOf mirrored) root edge top (now (points .entry)) r (now (points .exit)) ⌝ }
+    ensures { λ r. ⌜ SubtreeDrawn (now (table .entry)) (sideOf mirrored) root edge top (now (points .entry)) r (now (points .exit)) ⌝ }
 {
     let right = is_right_at(roles, root);
     let mut w = Walk {
@@ -220,9 +220,9 @@ fn draw_left(
     top: usize,
 ) -> usize
     requires { ⌜ Given (now table) (now sizes) (now roles) (now widest) (now points) ⌝ }
-    requires { ⌜ Hanging (now table) (now roles) (now widest) left root edge 0 top ⌝ }
+    requires { ⌜ Drawable (now table) (now roles) (now widest) left root edge 0 top ⌝ }
     requires { ⌜ 0 < root ⌝ }
-    ensures { λ r. ⌜ Hung (now (table .entry)) left root edge top (now (points .entry)) r (now (points .exit)) ⌝ }
+    ensures { λ r. ⌜ SubtreeDrawn (now (table .entry)) left root edge top (now (points .entry)) r (now (points .exit)) ⌝ }
 {
     draw_spine(table, sizes, roles, widest, points, root, edge, top, false)
 }
@@ -239,9 +239,9 @@ fn draw_right(
     top: usize,
 ) -> usize
     requires { ⌜ Given (now table) (now sizes) (now roles) (now widest) (now points) ⌝ }
-    requires { ⌜ Hanging (now table) (now roles) (now widest) right root edge 0 top ⌝ }
+    requires { ⌜ Drawable (now table) (now roles) (now widest) right root edge 0 top ⌝ }
     requires { ⌜ 0 < root ⌝ }
-    ensures { λ r. ⌜ Hung (now (table .entry)) right root edge top (now (points .entry)) r (now (points .exit)) ⌝ }
+    ensures { λ r. ⌜ SubtreeDrawn (now (table .entry)) right root edge top (now (points .entry)) r (now (points .exit)) ⌝ }
 {
     draw_spine(table, sizes, roles, widest, points, root, edge, top, true)
 }
@@ -259,8 +259,8 @@ fn draw_hung(
     top: usize,
 ) -> usize
     requires { ⌜ Given (now table) (now sizes) (now roles) (now widest) (now points) ⌝ }
-    requires { ⌜ Hanging (now table) (now roles) (now widest) (handAt w) child (w .edge) column top ⌝ }
-    ensures { λ r. ⌜ Hung (now (table .entry)) (handAt w) child (inwardsOf (handAt w) (w .edge) column) top
+    requires { ⌜ Drawable (now table) (now roles) (now widest) (handAt w) child (w .edge) column top ⌝ }
+    ensures { λ r. ⌜ SubtreeDrawn (now (table .entry)) (handAt w) child (inwardsOf (handAt w) (w .edge) column) top
         (now (points .entry)) r (now (points .exit)) ⌝ }
 {
     if child == 0 {
@@ -285,8 +285,8 @@ pub fn draw_tree(
     top: usize,
 ) -> usize
     requires { ⌜ Given (now table) (now sizes) (now roles) (now widest) (now points) ⌝ }
-    requires { ⌜ Hanging (now table) (now roles) (now widest) left root 0 0 top ⌝ }
-    ensures { λ r. ⌜ Hung (now (table .entry)) left root 0 top (now (points .entry)) r (now (points .exit)) ⌝ }
+    requires { ⌜ Drawable (now table) (now roles) (now widest) left root 0 0 top ⌝ }
+    ensures { λ r. ⌜ SubtreeDrawn (now (table .entry)) left root 0 top (now (points .entry)) r (now (points .exit)) ⌝ }
 {
     let w = Walk {
         at: 0,

@@ -42,9 +42,10 @@ module _ (t p : List ℕ) (ok : fault t ≡ 0) (z : CheckedAll (trees t) (pointO
 
   no-clash : Clashing t p → ⊥
   no-clash (inl h) =
-      let (b, e, f, x, y) = z .planar (h .k) (h .c) (h .m) (h .d) (h .s) (h .s′) (line-child t ok (h .line)) (line-child t ok (h .line′)) (h .different) (h .q) (h .x) (h .y) (h .q≥1) (h .on-line) (h .on-line′) in
-      h .elsewhere b e f (record { in-column = x; in-row = y })
-  no-clash (inr h) = h .no-end (z .clear (h .b) (h .k) (h .c) (h .s) (chained-node t ok (h .b) (h .chained)) (line-child t ok (h .line)) (h .lies .q) (h .lies .q≥1) (h .lies .on))
+      let w = h .two in
+      let (b, e, f, i) = z .planar (w .k) (w .c) (w .m) (w .d) (w .s) (w .s′) (line-child t ok (w .line)) (line-child t ok (w .line′)) (w .different) (w .so) in
+      h .elsewhere b e f i
+  no-clash (inr h) = h .no-end (z .clear (h .b) (h .k) (h .c) (h .s) (chained-node t ok (h .b) (h .chained)) (line-child t ok (h .line)) (h .lies))
 
   in-order : OutOfOrder t p → ⊥
   in-order h = h .not-ordered (inl (cross-negative _ _ _ .1 (z .ordered (h .k) (h .a) (h .b) (line-child t ok (h .left-line)) (line-child t ok (h .right-line)))))

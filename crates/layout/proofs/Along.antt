@@ -12,7 +12,7 @@ use Rattle.layout.specs.Spine.{knee, ordinary, switch}
 use Rattle.layout.specs.Drawing.{Part, part, join, place}
 use Rattle.layout.proofs.Clean.{HasRoot, a-root}
 use Rattle.layout.proofs.Points.{PointOf, bare, UntangledAt, order-at, point-rooted, rooted-high}
-use Rattle.layout.proofs.Motions.{untangled-shift, shift-within, width-shift, root-shift}
+use Rattle.layout.proofs.Motions.{untangled-shift, shift-within, edge-wide, root-shift}
 use Rattle.layout.proofs.Rows.{shape, count, HoldsRow}
 use Rattle.layout.proofs.Steps.{HungRectangle, Run, Knee, OrderOn, step-knee-right, step-knee-left, step-ordinary, step-switch}
 
@@ -56,7 +56,7 @@ some e t (placed k P a b) a-root = (omega arith, omega arith)
 hung : (e t : ℕ) {S : Tree} {D : Layout} → Drawn S D → HungRectangle e t (width D) (height D) (shift e t D)
 hung e t {D} g = record {
   stands = record { untangled = untangled-shift e t (g .stands .untangled); root = root-shift e t D (g .stands .root) };
-  wide = width-shift e t D;
+  wide = omega (arith, edge-wide e t D);
   some = some e t D;
   within = λ z. shift-within e t D z;
 }

@@ -2,9 +2,9 @@
 -- Nodes and edges go by the way to them from the root, not by their records.
 use mathlib.Core.Path.{_≡_}
 use mathlib.Core.Logic.{_⊎_, _≢_}
-use Prim.Native.Nat.{ℕ, _+_, _*_, _≤_, _<_}
+use Prim.Native.Nat.{ℕ, _+_, _*_, _<_}
 use Rattle.segment.specs.declared.Point.{Point}
-use Rattle.segment.specs.Segment.{On, Is}
+use Rattle.segment.specs.Segment.{Share, Is, Lies}
 use Rattle.table.specs.Table.{Side, left, right}
 use Rattle.layout.specs.Layout.{Layout, placed}
 
@@ -65,9 +65,9 @@ side (below s l) = side l
 abbrev pub Ends : {c : Kind} {L : Layout} → Node L → Piece c L → Type 0
 Ends n p = (n ≡ parent p) ⊎ (n ≡ child p)
 
--- (x, y) / q is a point of the edge.
-abbrev pub OnEdge : {L : Layout} → Edge L → (q x y : ℕ) → Type 0
-OnEdge l q x y = On (point (parent l)) (point (child l)) q x y
+-- The edges share a point.
+abbrev pub ShareEdges : {L : Layout} → Edge L → Edge L → Type 0
+ShareEdges l m = Share (point (parent l)) (point (child l)) (point (parent m)) (point (child m))
 
 -- The cross product of A − P and B − P, 24's a·d − b·c, is below zero. Over ℕ: what is taken away stands on the other side.
 abbrev pub Before : Point → Point → Point → Type 0
@@ -79,7 +79,7 @@ pub record Clean (L : Layout) : Type 0 where
   -- more than 22 asks: never level
   pub lower : (l : Edge L) → point (parent l) .row < point (child l) .row
   -- 23 and 25
-  pub planar : (l m : Edge L) → l ≢ m → (q x y : ℕ) → 1 ≤ q → OnEdge l q x y → OnEdge m q x y → (n : Node L) × Ends n l × Ends n m × Is (point n) q x y
-  pub clear : (n : Node L) (l : Edge L) (q : ℕ) → 1 ≤ q → OnEdge l q (q * point n .column) (q * point n .row) → Ends n l
+  pub planar : (l m : Edge L) → l ≢ m → (h : ShareEdges l m) → (n : Node L) × Ends n l × Ends n m × Is (point n) (h .q) (h .x) (h .y)
+  pub clear : (n : Node L) (l : Edge L) → Lies (point n) (point (parent l)) (point (child l)) → Ends n l
   -- 24
   pub ordered : (l m : Edge L) → parent l ≡ parent m → side l ≡ left → side m ≡ right → Before (point (parent l)) (point (child l)) (point (child m))

@@ -14,7 +14,7 @@ use Rattle.layout.specs.Spine.{knee, ordinary, switch}
 use Rattle.layout.specs.Drawing.{Part, part, join, place}
 use Rattle.layout.proofs.Clean.{root, below}
 use Rattle.layout.proofs.Points.{rooted-high}
-use Rattle.layout.proofs.Motions.{height-shift, height-shifted, height-flip}
+use Rattle.layout.proofs.Motions.{height-below, height-flip}
 use Rattle.layout.proofs.Rows.{shape, count, HoldsRow, row-shift, row-flip, count-shift, count-flip}
 use Rattle.layout.proofs.Along.{Drawn, Stretch, turn, run, Proper, ended, a-knee, an-ordinary, a-switch, Reached}
 
@@ -95,9 +95,9 @@ rows-ordinary : (k : ℕ) (s : Side) (H r p : ℕ) {u b : ℕ} {S : Tree} {D N :
     RunRows H p u b (join k (at 1 r) s (shift 2 (r + 1) D) N)
 rows-ordinary k s H r p {u} {b} {D} {N} le ge g n = record {
   after = omega (arith, n .after);
-  near = λ z i l. n .near z (omega (arith, J .high)) (omega (arith, height-shifted 2 (r + 1) z D (omega (arith, J .high)) (omega (arith, J .high))));
+  near = λ z i l. n .near z (omega (arith, J .high)) (omega (arith, J .high, height-below 2 (r + 1) D));
   room = n .room;
-  fits = omega (arith, J .high, n .fits, n .after, n .room, height-shift 2 (r + 1) D);
+  fits = omega (arith, J .high, n .fits, n .after, n .room, height-below 2 (r + 1) D);
   least = λ z i l. n .least z (omega (arith, J .high)) l;
   few = omega (arith, J .many, n .few, g .short, count-shift 2 (r + 1) D);
   filled = λ j l m. go j l m (decLe j r) (decLe j (r + height D));
@@ -115,9 +115,9 @@ rows-switch : (k W H r p : ℕ) {b : ℕ} {S : Tree} {D N : Layout} → r ≤ H 
     RunRows H p (r + height D + 1) b (join k (at 1 r) left (shift 1 (r + 1) D) (flip (W + 2) N))
 rows-switch k W H r p {b} {D} {N} le ge g n = record {
   after = omega arith;
-  near = λ z i l. omega (arith, height-shifted 1 (r + 1) z D (omega (arith, J .high)) (omega (arith, J .high)));
+  near = λ z i l. omega (arith, J .high, height-below 1 (r + 1) D);
   room = omega (arith, n .after);
-  fits = omega (arith, J .high, n .fits, n .after, height-shift 1 (r + 1) D, height-flip (W + 2) N);
+  fits = omega (arith, J .high, n .fits, n .after, height-below 1 (r + 1) D, height-flip (W + 2) N);
   least = λ z i l. n .least z (omega (arith, J .high, height-flip (W + 2) N)) (omega arith);
   few = omega (arith, J .many, n .few, g .short, count-shift 1 (r + 1) D, count-flip (W + 2) N);
   filled = λ j l m. go j l m (decLe j r) (decLe j (r + height D)) (decLe j (r + height D + p));
@@ -136,8 +136,8 @@ rows-switch k W H r p {b} {D} {N} le ge g n = record {
 rows-knee-right : (k H r : ℕ) {u b : ℕ} {S : Tree} {D N : Layout} → r ≤ H → Drawn S D → RunRows (H + height D) 0 u b N → TurnRows H b (join k (at 0 r) right (shift 1 (H + 1) D) N)
 rows-knee-right k H r {u} {b} {D} {N} le g n = record {
   after = omega (arith, n .after, n .room);
-  fits = omega (arith, J .high, n .fits, n .after, n .room, height-shift 1 (H + 1) D);
-  least = λ z i l. n .least z (omega (arith, J .high)) (omega (arith, n .near z (omega (arith, J .high)) (omega (arith, height-shifted 1 (H + 1) z D (omega arith) (omega (arith, J .high))))));
+  fits = omega (arith, J .high, n .fits, n .after, n .room, height-below 1 (H + 1) D);
+  least = λ z i l. n .least z (omega (arith, J .high)) (omega (arith, n .near z (omega (arith, J .high)) (omega (arith, J .high, height-below 1 (H + 1) D))));
   few = omega (arith, J .many, n .few, g .short, count-shift 1 (H + 1) D);
   filled = λ j l m. go j l m (decLe j (H + height D));
 }
@@ -152,8 +152,8 @@ rows-knee-right k H r {u} {b} {D} {N} le g n = record {
 rows-knee-left : (k H r : ℕ) {u b : ℕ} {S : Tree} {D N : Layout} → r ≤ H → Drawn S D → RunRows H (height D) u b N → TurnRows H b (join k (at 0 r) left (shift 1 u D) N)
 rows-knee-left k H r {u} {b} {D} {N} le g n = record {
   after = omega (arith, n .after, n .room);
-  fits = omega (arith, J .high, n .fits, n .after, n .room, height-shift 1 u D);
-  least = λ z i l. n .least z (omega (arith, J .high)) (height-shifted 1 u z D (n .near z (omega (arith, J .high)) l) (omega (arith, J .high)));
+  fits = omega (arith, J .high, n .fits, n .after, n .room, height-below 1 u D);
+  least = λ z i l. n .least z (omega (arith, J .high)) (omega (arith, J .high, n .near z (omega (arith, J .high)) l, height-below 1 u D));
   few = omega (arith, J .many, n .few, g .short, count-shift 1 u D);
   filled = λ j l m. ⊎-elim (J .in-next) (λ z. J .in-hung (hung-row 1 u j g (z .0) (z .1))) (n .filled j l m);
 }

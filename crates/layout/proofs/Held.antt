@@ -11,7 +11,7 @@ use Rattle.layout.specs.Layout.{Layout, blank, placed, width, height, sh
 use Rattle.layout.specs.Spine.{SpineNode, hangs, Role, knee, ordinary, switch, opposite, seen, roleAfter, handAfter, assigned, rolesAfter, facing}
 use Rattle.layout.specs.Drawing.{Part, part, hang, widest, join, place, draw}
 use Rattle.layout.specs.inner.Held.{inwards, put, hungOn, heightOn, widthOn, spineOn, roleNext, far, lay, rolesFrom, widestOn, Frame, Fit, Exact, bottom, Inside, GoesOn, Rooms, no-rooms, knee-room, ordinary-room, switch-room}
-use Rattle.layout.proofs.Motions.{width-shifted}
+use Rattle.layout.proofs.Motions.{edge-wide}
 use Rattle.layout.proofs.Rows.{shape, count, size-facing}
 use Rattle.layout.proofs.Steps.{wide-join}
 use Rattle.layout.proofs.Heights.{last}
@@ -109,7 +109,7 @@ module _ (B W t : ℕ) where
         drawn = held-join a e t k 1 r 2 (r + 1) s S N refl j (omega arith) (n .drawn);
         under = n .under;
         lowest = n .lowest;
-        rooms = ordinary-room (inside-less B a e (width-shifted 2 (r + 1) w D (omega (arith, v)) (omega (arith, v))) i) (n .rooms);
+        rooms = ordinary-room (inside-less B a e {v = 2 + width D} (omega (arith, v, edge-wide 2 (r + 1) D)) i) (n .rooms);
       }
   laid a e f w fr i (told {s} {o = switch} {k} {S} {ps} g z) H H′ r r′ p h j l m =
       let D = draw (facing a S) in
@@ -134,7 +134,7 @@ module _ (B W t : ℕ) where
         drawn = held-join left e t k 0 r 1 (N .under) left S (N .drawn) (edge-column left e) j (n .under) (n .drawn);
         under = n .under;
         lowest = n .lowest;
-        rooms = knee-room (inside-less B left e (width-shifted 1 (N .under) w D (omega arith) (omega arith)) i) (n .rooms);
+        rooms = knee-room (inside-less B left e {v = 1 + width D} (omega (arith, edge-wide 1 (N .under) D)) i) (n .rooms);
       }
   laid right e f w fr i (told {s = right} {o = knee} {k} {S} {ps} g z) H H′ r r′ p h j l m =
       let D = draw (facing right S) in
@@ -144,7 +144,7 @@ module _ (B W t : ℕ) where
         drawn = held-join right e t k 0 r 1 (N .under) right S (N .drawn) (edge-column right e) j (n .under) (n .drawn);
         under = n .under;
         lowest = n .lowest;
-        rooms = knee-room (inside-less B right e (width-shifted 1 (N .under) w D (omega arith) (omega arith)) i) (n .rooms);
+        rooms = knee-room (inside-less B right e {v = 1 + width D} (omega (arith, edge-wide 1 (N .under) D)) i) (n .rooms);
       }
   laid left e f w fr i (told {s = right} {o = knee} {k} {S} {ps} g z) H H′ r r′ p h j l m =
       let D = draw (facing left S) in
@@ -154,7 +154,7 @@ module _ (B W t : ℕ) where
         drawn = held-join left e t k 0 r 1 (max H r + 1) right S (N .drawn) (edge-column left e) j (omega arith) (n .drawn);
         under = n .under;
         lowest = n .lowest;
-        rooms = knee-room (inside-less B left e (width-shifted 1 (max H r + 1) w D (omega arith) (omega arith)) i) (n .rooms);
+        rooms = knee-room (inside-less B left e {v = 1 + width D} (omega (arith, edge-wide 1 (max H r + 1) D)) i) (n .rooms);
       }
   laid right e f w fr i (told {s = left} {o = knee} {k} {S} {ps} g z) H H′ r r′ p h j l m =
       let D = draw (facing right S) in
@@ -164,7 +164,7 @@ module _ (B W t : ℕ) where
         drawn = held-join right e t k 0 r 1 (max H r + 1) left S (N .drawn) (edge-column right e) j (omega arith) (n .drawn);
         under = n .under;
         lowest = n .lowest;
-        rooms = knee-room (inside-less B right e (width-shifted 1 (max H r + 1) w D (omega arith) (omega arith)) i) (n .rooms);
+        rooms = knee-room (inside-less B right e {v = 1 + width D} (omega (arith, edge-wide 1 (max H r + 1) D)) i) (n .rooms);
       }
 
 -- ---- the laws

@@ -160,7 +160,7 @@ pub untangled-clean : {L : Layout} → Untangled L → Clean L
 untangled-clean c = record {
   distinct = distinct c;
   lower = lower c;
-  planar = λ l m d q x y one u v. share-end d (meet c l m one (weights u) (weights v));
-  clear = λ n l q one u. lies-at-end (meet c n l one (along-node n q) (weights u));
+  planar = λ l m d h. share-end d (meet c l m (h .q≥1) (weights (h .on-PQ)) (weights (h .on-RS)));
+  clear = λ n l h. lies-at-end (meet c n l (h .q≥1) (along-node n (h .q)) (weights (h .on)));
   ordered = ordered c;
 }

@@ -63,39 +63,25 @@ node-within e w t h (placed k P a b) i j (below right n) = node-within e w t h b
 pub shift-within : (e t : ℕ) {q x y : ℕ} (L : Layout) → PointOf q x y (shift e t L) → InWindow e (width L) t (height L) q x y
 shift-within e t L z = point-within e (width L) t (height L) (node-within e (width L) t (height L) L (omega arith) (omega arith)) z
 
-pub width-shift : (e t : ℕ) (L : Layout) → width (shift e t L) ≤ e + width L
-unfolding shift width
-width-shift e t blank = omega arith
-width-shift e t (placed k P a b) = omega (arith, width-shift e t a, width-shift e t b)
-
--- A drawing from column e on, where column e is reached anyway.
-pub width-shifted : (e t z : ℕ) (L : Layout) → e ≤ z → width (shift e t L) ≤ z → e + width L ≤ z
-unfolding shift width
-width-shifted e t z blank h i = omega arith
-width-shifted e t z (placed k P a b) h i = omega (arith, width-shifted e t z a h (omega arith), width-shifted e t z b h (omega arith))
+-- The farther of two, from e on, where e is reached anyway.
+farther : (e a b a′ b′ : ℕ) → max e a′ ≡ e + a → max e b′ ≡ e + b → max e (max a′ b′) ≡ e + max a b
+farther e a b a′ b′ h i = omega arith
 
 -- A drawing whose edge is at column e, and a node left of it.
 pub edge-wide : (e t : ℕ) (L : Layout) → max e (width (shift e t L)) ≡ e + width L
-edge-wide e t L = omega (arith, width-shift e t L, width-shifted e t (max e (width (shift e t L))) L (omega arith) (omega arith))
+unfolding shift width
+edge-wide e t blank = omega arith
+edge-wide e t (placed k P a b) = omega (arith, farther e (width a) (width b) _ _ (edge-wide e t a) (edge-wide e t b))
 
 -- A drawing that keeps its columns is as wide.
 pub width-home : (t : ℕ) (L : Layout) → width (shift 0 t L) ≡ width L
 width-home t L = omega (arith, edge-wide 0 t L)
 
-pub height-shift : (e t : ℕ) (L : Layout) → height (shift e t L) ≤ t + height L
-unfolding shift height
-height-shift e t blank = omega arith
-height-shift e t (placed k P a b) = omega (arith, height-shift e t a, height-shift e t b)
-
--- A drawing from row t on reaches its height, where row t is reached anyway.
-pub height-shifted : (e t z : ℕ) (L : Layout) → t ≤ z → height (shift e t L) ≤ z → t + height L ≤ z
-unfolding shift height
-height-shifted e t z blank h i = omega arith
-height-shifted e t z (placed k P a b) h i = omega (arith, height-shifted e t z a h (omega arith), height-shifted e t z b h (omega arith))
-
 -- A drawing whose top row is row t, and a node above it.
 pub height-below : (e t : ℕ) (L : Layout) → max t (height (shift e t L)) ≡ t + height L
-height-below e t L = omega (arith, height-shift e t L, height-shifted e t (max t (height (shift e t L))) L (omega arith) (omega arith))
+unfolding shift height
+height-below e t blank = omega arith
+height-below e t (placed k P a b) = omega (arith, farther t (height a) (height b) _ _ (height-below e t a) (height-below e t b))
 
 pub same-node : {k c c′ r r′ : ℕ} {x x′ y y′ : Layout} → c ≡ c′ → r ≡ r′ → x ≡ x′ → y ≡ y′ → placed k (at c r) x y ≡ placed k (at c′ r′) x′ y′
 same-node c r x y = cc

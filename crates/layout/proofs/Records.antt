@@ -2,15 +2,15 @@
 -- Any plan that gives the nodes of a tree the points of its drawing, wherever it is shifted to, passes (`shifted-checked`).
 use mathlib.Core.Path.{_≡_, refl, ap, sym, subst, subst₂, _∙_}
 use mathlib.Core.Logic.{_⊎_, ⊎-map, _≢_}
-use Prim.Native.Nat.{ℕ, _*_, _≤_, _<_}
+use Prim.Native.Nat.{ℕ, _*_, _<_}
 use Rattle.segment.specs.declared.Point.{Point}
-use Rattle.segment.specs.Segment.{On}
+use Rattle.segment.specs.Segment.{On, Share, Is, Lies}
 use Rattle.segment.proofs.Weights.{weights}
 use Rattle.table.specs.Table.{Side, left, right}
 use Rattle.table.specs.Tree.{Tree, node}
 use Rattle.layout.specs.Layout.{Layout, placed, shift}
 use Rattle.layout.specs.Drawing.{draw}
-use Rattle.layout.proofs.Clean.{HasRoot, a-root, root, edge, below, Node, Edge, top, point, recordOf, parent, child, side, Ends, OnEdge, Before, Clean}
+use Rattle.layout.proofs.Clean.{HasRoot, a-root, root, edge, below, Node, Edge, top, point, recordOf, parent, child, side, Ends, Before, Clean}
 use Rattle.layout.proofs.Points.{PointOf, pointOn}
 use Rattle.layout.proofs.Meet.{along-node}
 use Rattle.layout.proofs.Rows.{shape, shape-shift}
@@ -40,9 +40,9 @@ pub record Conditions (N : ℕ → Type 0) (E : ℕ → ℕ → Side → Type 0)
   -- more than 22 asks: never level
   pub lower : (k c : ℕ) (s : Side) → E k c s → plan k .row < plan c .row
   -- 23 and 25
-  pub planar : (k c m d : ℕ) (s u : Side) → E k c s → E m d u → ¬ ((k ≡ m) × (c ≡ d)) → (q x y : ℕ) → 1 ≤ q → On (plan k) (plan c) q x y → On (plan m) (plan d) q x y →
-      (b : ℕ) × ((b ≡ k) ⊎ (b ≡ c)) × ((b ≡ m) ⊎ (b ≡ d)) × (x ≡ q * plan b .column) × (y ≡ q * plan b .row)
-  pub clear : (b k c : ℕ) (s : Side) → N b → E k c s → (q : ℕ) → 1 ≤ q → On (plan k) (plan c) q (q * plan b .column) (q * plan b .row) → (b ≡ k) ⊎ (b ≡ c)
+  pub planar : (k c m d : ℕ) (s u : Side) → E k c s → E m d u → ¬ ((k ≡ m) × (c ≡ d)) →
+      (h : Share (plan k) (plan c) (plan m) (plan d)) → (b : ℕ) × ((b ≡ k) ⊎ (b ≡ c)) × ((b ≡ m) ⊎ (b ≡ d)) × Is (plan b) (h .q) (h .x) (h .y)
+  pub clear : (b k c : ℕ) (s : Side) → N b → E k c s → Lies (plan b) (plan k) (plan c) → (b ≡ k) ⊎ (b ≡ c)
   -- 24
   pub ordered : (k a b : ℕ) → E k a left → E k b right → Before (plan k) (plan a) (plan b)
 
@@ -91,7 +91,7 @@ module _ (plan : ℕ → Point) (L : Layout) (fit : Agrees plan L) where
   ends : {k c : ℕ} {s : Side} (e : AsEdge k c s L) (n : Node L) → Ends n (e .l) → (recordOf n ≡ k) ⊎ (recordOf n ≡ c)
   ends e n h = ⊎-map (λ i. ap recordOf i ∙ e .from) (λ i. ap recordOf i ∙ e .to) h
 
-  along : {k c : ℕ} {s : Side} (e : AsEdge k c s L) {q x y : ℕ} → On (plan k) (plan c) q x y → OnEdge (e .l) q x y
+  along : {k c : ℕ} {s : Side} (e : AsEdge k c s L) {q x y : ℕ} → On (plan k) (plan c) q x y → On (point (parent (e .l))) (point (child (e .l))) q x y
   along e {q} {x} {y} o = subst₂ (λ (P Q : Point). On P Q q x y) (there (parent (e .l)) (e .from)) (there (child (e .l)) (e .to)) o
 
   -- a node and the points of an edge are points of the layout
@@ -113,17 +113,17 @@ module _ (plan : ℕ → Point) (L : Layout) (fit : Agrees plan L) where
           let b = as-node m L i in
           d (sym (a .is) ∙ (ap recordOf (z .distinct (a .n) (b .n) (sym (there (a .n) (a .is)) ∙ (e ∙ there (b .n) (b .is)))) ∙ b .is));
       lower = λ k c s h. let e = as-edge k c s L h in rw (there (parent (e .l)) (e .from), there (child (e .l)) (e .to)) (z .lower (e .l));
-      planar = λ k c m d s u h i ne q x y one o p.
+      planar = λ k c m d s u h i ne o.
           let e = as-edge k c s L h in
           let f = as-edge m d u L i in
-          let w = z .planar (e .l) (f .l) (λ j. ne (sym (e .from) ∙ (ap (λ l. recordOf (parent l)) j ∙ f .from), sym (e .to) ∙ (ap (λ l. recordOf (child l)) j ∙ f .to))) q x y one
-          (along e o) (along f p) in
-          (recordOf (w .0), ends e (w .0) (w .1), ends f (w .0) (w .2), rw fit (w .3 .in-column), rw fit (w .3 .in-row));
-      clear = λ b k c s h i q one o.
+          let w = z .planar (e .l) (f .l)
+          (λ j. ne (sym (e .from) ∙ (ap (λ l. recordOf (parent l)) j ∙ f .from), sym (e .to) ∙ (ap (λ l. recordOf (child l)) j ∙ f .to)))
+          (record { q = o .q; x = o .x; y = o .y; q≥1 = o .q≥1; on-PQ = along e (o .on-PQ); on-RS = along f (o .on-RS) }) in
+          (recordOf (w .0), ends e (w .0) (w .1), ends f (w .0) (w .2), rw fit (w .3));
+      clear = λ b k c s h i o.
           let n = as-node b L h in
           let e = as-edge k c s L i in
-          subst (λ (j : ℕ). (j ≡ k) ⊎ (j ≡ c)) (n .is) (ends e (n .n) (z .clear (n .n) (e .l) q one
-          (subst (λ (P : Point). OnEdge (e .l) q (q * P .column) (q * P .row)) (there (n .n) (n .is)) (along e o))));
+          rw (← n .is) (ends e (n .n) (z .clear (n .n) (e .l) (rw (there (n .n) (n .is), there (parent (e .l)) (e .from), there (child (e .l)) (e .to)) at o)));
       ordered = λ k a b h i.
           let e = as-edge k a left L h in
           let f = as-edge k b right L i in

@@ -21,7 +21,7 @@ use Rattle.layout.specs.Spine.{SpineNode, hangs, spine, Role, knee, ordi
 use Rattle.layout.specs.Drawing.{Part, part, hang, widest, join, place}
 use Rattle.layout.specs.inner.Held.{spineOn}
 use Rattle.layout.proofs.Clean.{HasRoot, a-root}
-use Rattle.layout.proofs.Motions.{width-flip, width-shift}
+use Rattle.layout.proofs.Motions.{width-flip, edge-wide}
 use Rattle.layout.proofs.Rows.{shape, mirror-twice, size-mirror, shape-shift, shape-flip}
 use Rattle.layout.proofs.Steps.{wide-join}
 use Rattle.layout.proofs.Along.{Drawn, Stretch, turn, run, Beside, on-right, nothing, Proper, ended, a-knee, an-ordinary, a-switch}
@@ -176,7 +176,7 @@ knee-wide W H r p k right D ps = omega (arith, width-flip (W + 2) (place W (max 
 
 -- A node in a column below B, with a drawing and a rest that end before B.
 wide-part : (k : ℕ) (P : Point) (s : Side) (e t B : ℕ) (D N : Layout) → P .column < B → e + width D ≤ B → width N ≤ B → width (join k P s (shift e t D) N) ≤ B
-wide-part k P s e t B D N h i j = omega (arith, wide-join k P s (shift e t D) N, width-shift e t D)
+wide-part k P s e t B D N h i j = omega (arith, wide-join k P s (shift e t D) N, edge-wide e t D)
 
 -- The frame holds what is placed, wherever it is.
 abbrev pub Framed : ℕ → List Part → Type 0

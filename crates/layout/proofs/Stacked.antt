@@ -18,7 +18,7 @@ use Rattle.layout.specs.Layout.{Layout, width, height, shift, RootAt}
 use Rattle.layout.specs.Drawing.{draw}
 use Rattle.layout.specs.Trees.{drawFrom, drawTrees, widthOf, heightOf}
 use Rattle.layout.proofs.Points.{PointOf}
-use Rattle.layout.proofs.Motions.{shift-within, width-home, height-shift, height-below, shift-none, root-shift}
+use Rattle.layout.proofs.Motions.{shift-within, width-home, height-below, shift-none, root-shift}
 use Rattle.layout.proofs.Rows.{shape, HoldsRow, row-shift}
 use Rattle.layout.proofs.Theorem.{promise}
 use Rattle.layout.proofs.Records.{IsNode, Child, Conditions, Checked, Agrees, node-shown, edge-shown, shape-drawn, shifted-checked}
@@ -67,7 +67,7 @@ trees-narrow (a ∷ ts) r k h =
 pub trees-short : (ts : List Tree) (r : ℕ) → heightOf (drawFrom r ts) ≤ r + length (nodesOf ts)
 unfolding drawFrom heightOf
 trees-short [] r = omega arith
-trees-short (a ∷ ts) r = omega (arith, length-trees a ts, height-shift 0 r (draw a), promise a .short, trees-short ts (r + height (draw a)))
+trees-short (a ∷ ts) r = omega (arith, length-trees a ts, height-below 0 r (draw a), promise a .short, trees-short ts (r + height (draw a)))
 
 -- ---- one of several
 
@@ -144,12 +144,12 @@ trees-checked ts r plan fit = record {
   lower = λ k c s h.
       let t = same-tree plan (omega arith) (parent-in plan k c s) (parent-in plan k c s) ts r fit h h in
       checked plan t .lower k c s (t .one);
-  planar = λ k c m d s u h i ne q x y one o p.
-      let t = same-tree plan one (edge-in plan k c s o) (edge-in plan m d u p) ts r fit h i in
-      checked plan t .planar k c m d s u (t .one) (t .other) ne q x y one o p;
-  clear = λ b k c s h i q one o.
-      let t = same-tree plan one (node-in plan b q) (edge-in plan k c s o) ts r fit h i in
-      checked plan t .clear b k c s (t .one) (t .other) q one o;
+  planar = λ k c m d s u h i ne o.
+      let t = same-tree plan (o .q≥1) (edge-in plan k c s (o .on-PQ)) (edge-in plan m d u (o .on-RS)) ts r fit h i in
+      checked plan t .planar k c m d s u (t .one) (t .other) ne o;
+  clear = λ b k c s h i o.
+      let t = same-tree plan (o .q≥1) (node-in plan b (o .q)) (edge-in plan k c s (o .on)) ts r fit h i in
+      checked plan t .clear b k c s (t .one) (t .other) o;
   ordered = λ k a b h i.
       let t = same-tree plan (omega arith) (parent-in plan k a left) (parent-in plan k b right) ts r fit h i in
       checked plan t .ordered k a b (t .one) (t .other);
@@ -169,4 +169,4 @@ rows-held (a ∷ ts) r j h i = go (decLt j (r + height (draw a))) (rows-held ts 
         let (n, e) = promise a .filled (j - r) (omega arith) in
         let (m, f) = row-shift 0 r n in
         here (m, omega arith)
-    go (no l) later = there (later (omega arith) (omega (arith, height-shift 0 r (draw a))))
+    go (no l) later = there (later (omega arith) (omega (arith, height-below 0 r (draw a))))

@@ -1,17 +1,16 @@
 -- Lines of which each is to the left of the next: the first is to the left of the last on a level that all have. Rests on Levels.
 use mathlib.Core.Path.{_≡_, refl, ap, sym, _∙_, subst}
-use mathlib.Core.Logic.{_⊎_, inl, inr}
-use Prim.Native.Nat.{ℕ, zero, suc, _+_, _*_, _-_, _≤_, _<_}
+use Prim.Native.Nat.{ℕ, _+_, _*_, _-_, _≤_, _<_}
 use native.Mathlib.Nat.{mul-le-mul-left, le-of-mul-le-mul-left, eq-of-mul-eq-mul-left}
 use native.Mathlib.Decide.{decLt}
 use native.Mathlib.Omega.{arith}
 use Rattle.segment.specs.declared.Point.{Point}
-use Rattle.segment.specs.Segment.{Is, Clash}
+use Rattle.segment.specs.Segment.{Is}
 use Rattle.segment.specs.inner.Test.{number}
-use Rattle.segment.proofs.Weights.{Weights, weights}
+use Rattle.segment.proofs.Weights.{Weights}
 use Rattle.segment.proofs.Clashing.{point}
 use Rattle.neighbours.specs.inner.Side.{Ends}
-use Rattle.neighbours.proofs.Levels.{EndAt, Level, level-back, Ordered, is-moved}
+use Rattle.neighbours.proofs.Levels.{EndAt, Level, Ordered, is-moved}
 
 -- ---- a line has a point on each level between its ends
 

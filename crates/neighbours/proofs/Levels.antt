@@ -3,15 +3,14 @@
 use mathlib.Core.Path.{_≡_, refl, ap, sym, _∙_, subst}
 use mathlib.Core.Logic.{_⊎_, inl, inr}
 use Prim.Native.Nat.{ℕ, _+_, _*_, _-_, _≤_, _<_}
-use native.Mathlib.Nat.{mul-le-mul-left, mul-le-mul-right, le-of-mul-le-mul-left, eq-of-mul-eq-mul-left, le-dest, mul-pos}
+use native.Mathlib.Nat.{mul-le-mul-left, mul-le-mul-right, eq-of-mul-eq-mul-left}
 use native.Mathlib.Decide.{decLt}
 use native.Mathlib.Omega.{arith}
 use Rattle.segment.specs.declared.Point.{Point}
-use Rattle.segment.specs.Segment.{On, Is}
+use Rattle.segment.specs.Segment.{Is}
 use Rattle.segment.specs.inner.Test.{number}
-use Rattle.segment.proofs.Weights.{Weights, weights, on, turned, at-end, at-point}
+use Rattle.segment.proofs.Weights.{Weights, turned, at-end, at-point}
 use Rattle.segment.proofs.CrossProduct.{plus, minus, cross-negative}
-use Rattle.segment.proofs.Clashing.{point}
 use Rattle.segment.proofs.Separate.{number-once}
 use Rattle.neighbours.specs.inner.Side.{Ends, Right, Beyond}
 

@@ -9,7 +9,7 @@ use native.Mathlib.Decide.{decLt, ℕ-discrete}
 use native.Mathlib.Omega.{arith}
 use lib.ListN.{length, getD}
 use Rattle.segment.specs.declared.Point.{Point}
-use Rattle.segment.specs.Segment.{Is, Clash}
+use Rattle.segment.specs.Segment.{Is}
 use Rattle.segment.specs.inner.Test.{number}
 use Rattle.segment.proofs.Weights.{Weights, weights}
 use Rattle.segment.proofs.Clashing.{clash-exchange}
@@ -19,7 +19,7 @@ use Rattle.line.specs.inner.Line.{startOf, endOf, first, last, Onward}
 use Rattle.line.proofs.Numbers.{number-first, number-last, start-fits, end-fits}
 use Rattle.neighbours.specs.inner.Side.{Ends, Next}
 use Rattle.neighbours.specs.inner.Abreast.{Clashes, NoClash, Places, at, Starting, Clear, Abreast, Downto, Replaced}
-use Rattle.neighbours.proofs.Levels.{EndAt, Ordered, right-ordered, left-ordered}
+use Rattle.neighbours.proofs.Levels.{Ordered, right-ordered, left-ordered}
 use Rattle.neighbours.proofs.Chain.{Spot, spot, Under, under-next, under-more, under-on}
 
 -- ---- lines as numbers, and their levels
@@ -65,8 +65,8 @@ pub record Meets (X Y q x y : ℕ) : Type 0 where
   pub on-Y : Weights (startOf Y) (endOf Y) q x y
   pub apart : (E : Point) → Ends E (startOf X) (endOf X) → Ends E (startOf Y) (endOf Y) → Is E q x y → ⊥
 
-meets-of : {X Y : ℕ} (c : Clash (startOf X) (endOf X) (startOf Y) (endOf Y)) → Meets X Y (c .q) (c .x) (c .y)
-meets-of c = record { one = c .q≥1; on-X = weights (c .on-PQ); on-Y = weights (c .on-RS); apart = c .no-common-end }
+meets-of : {X Y : ℕ} (c : Clashes X Y) → Meets X Y (c .share .q) (c .share .x) (c .share .y)
+meets-of c = record { one = c .share .q≥1; on-X = weights (c .share .on-PQ); on-Y = weights (c .share .on-RS); apart = c .no-common-end }
 
 meets-back : {X Y q x y : ℕ} → Meets X Y q x y → Meets Y X q x y
 meets-back c = record { one = c .one; on-X = c .on-Y; on-Y = c .on-X; apart = λ E a b. c .apart E b a }
@@ -127,17 +127,17 @@ apart {n} {t} {m} {l} a o below come next t′ start {j} {k} {q} {x} {y} (p, u, 
 -- Down to a level above which none of them starts.
 advance : {n i t m : ℕ} {l a : List ℕ} → Onward n l → Abreast n i t m l a → (t′ : ℕ) → t′ ≤ t → ((p : ℕ) → p < m → first (at l a p) ≤ t′) →
     (j k : ℕ) → i ≤ j → j < k → k < n → Clear t′ (getD l j 0) (getD l k 0)
-advance {n} {i} {t} {m} {l} {a} o h t′ d start j k g b v = record { clear = λ c. go c (decLt (65536 * c .y + c .x) (c .q * t′)) }
+advance {n} {i} {t} {m} {l} {a} o h t′ d start j k g b v = record { clear = λ c. go c (decLt (65536 * c .share .y + c .share .x) (c .share .q * t′)) }
   where
-    go : (c : Clash (startOf (getD l j 0)) (endOf (getD l j 0)) (startOf (getD l k 0)) (endOf (getD l k 0))) → Dec (65536 * c .y + c .x < c .q * t′) →
-        65536 * c .y + c .x < c .q * t′
+    go : (c : Clashes (getD l j 0) (getD l k 0)) → Dec (65536 * c .share .y + c .share .x < c .share .q * t′) →
+        65536 * c .share .y + c .share .x < c .share .q * t′
     go c (yes z) = z
     go c (no z) =
         let old = h .clear (λ p u. omega (arith, start p u)) j k g b v .clear c in
         let w = meets-of c in
         absurd (apart a o (h .below) (h .come) (h .next) t′ start
-        (h .all j g (omega arith) (less (c .q) (first (getD l j 0)) t (omega (arith, on-levels (getD l j 0) (o .onward j (omega arith)) (w .on-X)))))
-        (h .all k (omega arith) v (less (c .q) (first (getD l k 0)) t (omega (arith, on-levels (getD l k 0) (o .onward k v) (w .on-Y)))))
+        (h .all j g (omega arith) (less (c .share .q) (first (getD l j 0)) t (omega (arith, on-levels (getD l j 0) (o .onward j (omega arith)) (w .on-X)))))
+        (h .all k (omega arith) v (less (c .share .q) (first (getD l k 0)) t (omega (arith, on-levels (getD l k 0) (o .onward k v) (w .on-Y)))))
         (λ e. omega arith) (omega arith) (omega arith) w)
 
 -- ---- lines go out, and one comes in or none
@@ -226,7 +226,7 @@ module _ {n i i′ t t′ m m′ d p e : ℕ} {l a b : List ℕ} (o : Onward n l
 
       clear : ((s : ℕ) → s < m′ → first (at l b s) ≤ t′) → (j k : ℕ) → i′ ≤ j → j < k → k < n → Dec (j < i) → Clear t′ (getD l j 0) (getD l k 0)
       clear start j k u v w (no z) = advance o h t′ down (before start) j k (omega arith) v w
-      clear start j k u v w (yes z) = record { clear = λ c. go c (decLt (65536 * c .y + c .x) (c .q * t′)) (decLt (first (getD l k 0)) t′) }
+      clear start j k u v w (yes z) = record { clear = λ c. go c (decLt (65536 * c .share .y + c .share .x) (c .share .q * t′)) (decLt (first (getD l k 0)) t′) }
         where
           is : j ≡ i′
           is = omega arith
@@ -234,8 +234,8 @@ module _ {n i i′ t t′ m m′ d p e : ℕ} {l a b : List ℕ} (o : Onward n l
           ends : last (getD l j 0) ≡ t′
           ends = ap (λ (r : ℕ). last (getD l r 0)) is ∙ in′ (omega arith)
 
-          go : (c : Clashes (getD l j 0) (getD l k 0)) → Dec (65536 * c .y + c .x < c .q * t′) → Dec (first (getD l k 0) < t′) →
-              65536 * c .y + c .x < c .q * t′
+          go : (c : Clashes (getD l j 0) (getD l k 0)) → Dec (65536 * c .share .y + c .share .x < c .share .q * t′) → Dec (first (getD l k 0) < t′) →
+              65536 * c .share .y + c .share .x < c .share .q * t′
           go c (yes y) s = y
           go c (no y) (yes s) =
               let x = meets-of c in
@@ -245,7 +245,7 @@ module _ {n i i′ t t′ m m′ d p e : ℕ} {l a b : List ℕ} (o : Onward n l
                 changed .here (omega arith) ∙
                     sym is,
               ) (old-all k (omega arith) w s)
-              (λ f. omega arith) (omega arith) (subst (λ (r : ℕ). 65536 * c .y + c .x ≤ c .q * r) ends (on-levels (getD l j 0) (o .onward j (omega arith)) (x .on-X) .1)) x)
+              (λ f. omega arith) (omega arith) (subst (λ (r : ℕ). 65536 * c .share .y + c .share .x ≤ c .share .q * r) ends (on-levels (getD l j 0) (o .onward j (omega arith)) (x .on-X) .1)) x)
           go c (no y) (no s) =
               absurd (numbers-apart 65536 (start-fits (getD l k 0)) (end-fits (getD l k 0)) (end-fits (getD l j 0)) (up (getD l k 0) (o .onward k w))
               (up (getD l j 0) (o .onward j (omega arith))) (omega (arith, number-first (getD l k 0), number-last (getD l j 0), ends)) (clash-exchange c))
@@ -291,8 +291,8 @@ abreast-none n t l a = record {
 pub abreast-over : {n t : ℕ} {l a : List ℕ} → Onward n l → Abreast n 0 t 0 l a → NoClash n l
 abreast-over {n} {t} {l} {a} o h = record {
   none = λ j k v w c.
-      let low = on-levels (getD l j 0) (o .onward j (omega arith)) (weights (c .on-PQ)) .0 in
+      let low = on-levels (getD l j 0) (o .onward j (omega arith)) (weights (c .share .on-PQ)) .0 in
       let z = h .clear (λ p u. absurd (omega arith)) j k (omega arith) v w .clear c in
-      let y = h .all j (omega arith) (omega arith) (less (c .q) (first (getD l j 0)) t (omega arith)) in
+      let y = h .all j (omega arith) (omega arith) (less (c .share .q) (first (getD l j 0)) t (omega arith)) in
       omega (arith, y .1);
 }

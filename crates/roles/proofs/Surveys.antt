@@ -16,7 +16,7 @@ use Rattle.table.specs.Refusal.{fault}
 use Rattle.table.proofs.Lists.{same, same-one, length-within}
 use Rattle.table.proofs.Chain.{length-nodes}
 use Rattle.table.proofs.Accepted.{records-bounds, chain-length, size-below, tree-unfolds, tree-none}
-use Rattle.layout.specs.Spine.{SpineNode, hangs, spine, Role, knee, ordinary, switch, opposite, facing, seen, roleAfter, handAfter, assigned, Assigned, rolesAfter, roles}
+use Rattle.layout.specs.Spine.{SpineNode, hangs, spine, Role, knee, ordinary, switch, opposite, facing, seen, roleAfter, handAfter, assigned, rolesAfter, roles}
 use Rattle.layout.specs.Drawing.{Part, hang, widest, draw}
 use Rattle.layout.specs.inner.Held.{widthOn, spineOn, roleNext, widestOn}
 use Rattle.layout.specs.inner.Width.{edge, turn}
@@ -33,23 +33,26 @@ use Rattle.roles.specs.inner.Prepared.{Prepared, no-spine, a-spine, Alon
 use Rattle.roles.specs.inner.Measured.{SameOutside, Measured, Longer}
 use Rattle.roles.proofs.Forks.{named-within}
 use Rattle.roles.proofs.Choices.{code-same, code-small}
-use Rattle.roles.proofs.Frames.{countOn, countHung, along-on, count-spine, hung-below, nodes-named, once, prepared-frame, along-frame, keeps-seen, KeepsAfter, keeps-frame, with-kept, with-keeps, with-whole, AlongAfter, along-node}
+use Rattle.roles.proofs.Frames.{countOn, countHung, along-on, count-spine, hung-below, nodes-named, once, prepared-frame, along-frame}
+use Rattle.roles.proofs.Frames.{keeps-seen, KeepsAfter, keeps-frame, with-kept, with-keeps, with-whole, AlongAfter, along-node}
 
--- The three counts of a spine, one node at a time.
-widest-node : (a : Side) (o : Role) (k : ℕ) (h : Side) (S : Tree) (ps : List Part) → widest (hang draw (assigned o (seen a (hangs k h S))) ∷ ps) ≡ max (widthOn a S) (widest ps)
-unfolding widest hang seen widthOn facing
-widest-node left o k h S ps = refl
-widest-node right o k h S ps = refl
+-- The three counts of the parts ps of a spine.
+record Counts (ps : List Part) (g e : ℕ) (b : Bool) : Type 0 where
+  greatest : widest ps ≡ g
+  farthest : reaches ps ≡ e
+  switched : turns ps ≡ b
 
-reaches-node : (a : Side) (o : Role) (k : ℕ) (h : Side) (S : Tree) (ps : List Part) → reaches (hang draw (assigned o (seen a (hangs k h S))) ∷ ps) ≡ max (edge o + widthOn a S) (reaches ps)
-unfolding reaches hang seen widthOn facing
-reaches-node left o k h S ps = refl
-reaches-node right o k h S ps = refl
+-- One node more.
+counts-node : (a : Side) (o : Role) (k : ℕ) (h : Side) (S : Tree) (ps : List Part) →
+    Counts (hang draw (assigned o (seen a (hangs k h S))) ∷ ps) (max (widthOn a S) (widest ps)) (max (edge o + widthOn a S) (reaches ps)) (turn o (turns ps))
+unfolding widest reaches turns hang seen widthOn facing
+counts-node left o k h S ps = record { greatest = refl; farthest = refl; switched = refl }
+counts-node right o k h S ps = record { greatest = refl; farthest = refl; switched = refl }
 
-turns-node : (a : Side) (o : Role) (k : ℕ) (h : Side) (S : Tree) (ps : List Part) → turns (hang draw (assigned o (seen a (hangs k h S))) ∷ ps) ≡ turn o (turns ps)
-unfolding turns hang seen
-turns-node left o k h S ps = refl
-turns-node right o k h S ps = refl
+-- No node left.
+counts-end : (a : Side) (o : Role) {ls : List SpineNode} → ls ≡ [] → Counts (parts draw a o ls) 0 0 false
+unfolding rolesAfter widest reaches turns
+counts-end a o e = rw e (record { greatest = refl; farthest = refl; switched = refl })
 
 turn-or : (o : Role) (b c : Bool) → turn o b || c ≡ b || turn o c
 turn-or knee b c = refl
@@ -66,7 +69,8 @@ pub record Surveying (t : List ℕ) (s : Side) (root : ℕ) (R₀ W₀ R W : Lis
   pub named : Named t k
   pub keeps : KeepsAfter R a o (spineOn s (treeAt t k))
   -- what is prepared from here on, with nothing else changed, is prepared from the root on
-  pub finish : (R′ W′ : List ℕ) → SameOutside (treeAt t k) R R′ → SameOutside (treeAt t k) W W′ → AlongAfter R′ W′ a o (spineOn s (treeAt t k)) → AlongAfter R′ W′ (opposite s) switch (spineOn s (treeAt t root))
+  pub finish : (R′ W′ : List ℕ) → SameOutside (treeAt t k) R R′ → SameOutside (treeAt t k) W W′ → AlongAfter R′ W′ a o (spineOn s (treeAt t k)) →
+      AlongAfter R′ W′ (opposite s) switch (spineOn s (treeAt t root))
   pub inside : (x : ℕ) → count x (nodes (treeAt t k)) ≤ count x (nodes (treeAt t root))
   pub kept-roles : SameOutside (treeAt t root) R₀ R
   pub kept-widest : SameOutside (treeAt t root) W₀ W
@@ -87,18 +91,20 @@ size-small t ok k (inl e) = rw (e, tree-none t) (unfold size in omega arith)
 size-small t ok k (inr h) = omega (arith, size-below t ok k h, chain-length t ok, records-bounds t ok)
 
 module _ (t : List ℕ) (ok : fault t ≡ 0) (s : Side) (root : ℕ) where
-  pub start : Named t root → (R W : List ℕ) → length R ≡ 4097 → (R₀ : List ℕ) → R₀ ≡ withRoles s (roles (spine (facing s (treeAt t root)))) R → Surveying t s root R₀ W R₀ W root 0 0 false (opposite s) switch
+  pub start : Named t root → (R W : List ℕ) → length R ≡ 4097 → (R₀ : List ℕ) → R₀ ≡ withRoles s (roles (spine (facing s (treeAt t root)))) R →
+      Surveying t s root R₀ W R₀ W root 0 0 false (opposite s) switch
   unfolding widestOn
   start n R W z R₀ e = record {
     named = n;
-    keeps = subst (λ (X : List ℕ). KeepsAfter X (opposite s) switch ls) (sym (e ∙ with-whole s S R)) (with-keeps (opposite s) switch ls R (λ x. omega (arith, once t ok root n x, count-spine s x S)) (λ x i. within x i));
+    keeps = subst (λ (X : List ℕ). KeepsAfter X (opposite s) switch ls) (sym (e ∙ with-whole s S R))
+        (with-keeps (opposite s) switch ls R (λ x. omega (arith, once t ok root n x, count-spine s x S)) (λ x i. within x i));
     finish = λ R′ W′ kr kg l. l;
     inside = λ x. omega arith;
     kept-roles = λ x i. refl;
     kept-widest = λ x i. refl;
-    widest = omega (arith, ap (λ (rs : List Assigned). widest (map (hang draw) rs)) (first-on s ls));
-    reach = omega (arith, ap (λ (rs : List Assigned). reaches (map (hang draw) rs)) (first-on s ls));
-    turned = ap (λ (rs : List Assigned). turns (map (hang draw) rs)) (first-on s ls);
+    widest = omega (arith, ap widest first);
+    reach = omega (arith, ap reaches first);
+    turned = ap turns first;
   }
     where
       S : Tree
@@ -107,10 +113,14 @@ module _ (t : List ℕ) (ok : fault t ≡ 0) (s : Side) (root : ℕ) where
       ls : List SpineNode
       ls = spineOn s S
 
+      first : parts draw (opposite s) switch ls ≡ partsOn s S
+      first = ap (map (hang draw)) (first-on s ls)
+
       within : (x : ℕ) → 1 ≤ countOn x ls → x < length R
       within x i = omega (arith, named-within t ok x (nodes-named t ok root n x (omega (arith, count-spine s x S))))
 
-  module _ {R₀ W₀ R W : List ℕ} {k g e : ℕ} {b : Bool} {a : Side} {o : Role} (v : Surveying t s root R₀ W₀ R W k g e b a o) {k′ hung : ℕ} {h : Side} (d : Forked t s k k′ hung h) where
+  module _ {R₀ W₀ R W : List ℕ} {k g e : ℕ} {b : Bool} {a : Side} {o : Role} (v : Surveying t s root R₀ W₀ R W k g e b a o)
+      {k′ hung : ℕ} {h : Side} (d : Forked t s k k′ hung h) where
     abbrev hand : Side
     hand = handAfter o a
 
@@ -131,21 +141,26 @@ module _ (t : List ℕ) (ok : fault t ≡ 0) (s : Side) (root : ℕ) where
     abbrev ls : List SpineNode
     ls = spineOn s (treeAt t k′)
 
-    pub pass : (R′ W′ : List ℕ) (w : ℕ) → Measured t hand hung R W R′ W′ w → Surveying t s root R₀ W₀ R′ W′ k′ (max g w) (max e (edge role + w)) (turn role b) hand role
+    counts : Counts (parts draw a o (spineOn s (treeAt t k))) (max (widthOn hand (treeAt t hung)) (widest (parts draw hand role ls)))
+        (max (edge role + widthOn hand (treeAt t hung)) (reaches (parts draw hand role ls))) (turn role (turns (parts draw hand role ls)))
     unfolding rolesAfter
+    counts = rw (d .forks) (counts-node hand role k h (treeAt t hung) (parts draw hand role ls))
+
+    pub pass : (R′ W′ : List ℕ) (w : ℕ) → Measured t hand hung R W R′ W′ w →
+        Surveying t s root R₀ W₀ R′ W′ k′ (max g w) (max e (edge role + w)) (turn role b) hand role
     pass R′ W′ w m = record {
       named = d .named-spine;
       keeps = keeps-frame R R′ hand role ls (kept-here .1) (λ x (i : 1 ≤ countOn x ls). m .kept-roles x (omega (arith, single x, count-spine s x (treeAt t k′))));
-      finish = λ R″ W″ kr kg l. v .finish R″ W″ (λ x i. kr x (omega (arith, counted x)) ∙ m .kept-roles x (omega (arith, counted x))) (λ x i. kg x (omega (arith, counted x)) ∙ m .kept-widest x (omega (arith, counted x)))
+      finish = λ R″ W″ kr kg l. v .finish R″ W″
+          (λ x i. kr x (omega (arith, counted x)) ∙ m .kept-roles x (omega (arith, counted x)))
+          (λ x i. kg x (omega (arith, counted x)) ∙ m .kept-widest x (omega (arith, counted x)))
           (subst (AlongAfter R″ W″ a o) (sym (d .forks)) (along-node a o k h (treeAt t hung) ls (here R″ kr) (hangs-on R″ W″ kr kg) l));
       inside = λ x. omega (arith, counted x, v .inside x);
       kept-roles = λ x i. m .kept-roles x (omega (arith, counted x, v .inside x)) ∙ v .kept-roles x i;
       kept-widest = λ x i. m .kept-widest x (omega (arith, counted x, v .inside x)) ∙ v .kept-widest x i;
-      widest = omega (arith, ap (λ (ns : List SpineNode). widest (parts draw a o ns)) (d .forks), widest-node hand role k h (treeAt t hung) (parts draw hand role ls), m .wide, v .widest);
-      reach = omega (arith, ap (λ (ns : List SpineNode). reaches (parts draw a o ns)) (d .forks), reaches-node hand role k h (treeAt t hung) (parts draw hand role ls), m .wide, v .reach);
-      turned = turn-or role b (turns (parts draw hand role ls))
-          ∙ ap (λ (c : Bool). b || c) (sym (ap (λ (ns : List SpineNode). turns (parts draw a o ns)) (d .forks) ∙ turns-node hand role k h (treeAt t hung) (parts draw hand role ls)))
-          ∙ v .turned;
+      widest = omega (arith, counts .greatest, m .wide, v .widest);
+      reach = omega (arith, counts .farthest, m .wide, v .reach);
+      turned = turn-or role b (turns (parts draw hand role ls)) ∙ ap (λ (c : Bool). b || c) (sym (counts .switched)) ∙ v .turned;
     }
       where
         here : (R″ : List ℕ) → SameOutside (treeAt t k′) R′ R″ → getD R″ k 0 ≡ codeOf hand role
@@ -153,7 +168,9 @@ module _ (t : List ℕ) (ok : fault t ≡ 0) (s : Side) (root : ℕ) where
 
         hangs-on : (R″ W″ : List ℕ) → SameOutside (treeAt t k′) R′ R″ → SameOutside (treeAt t k′) W′ W″ → Prepared R″ W″ hand (treeAt t hung)
         hangs-on R″ W″ kr kg =
-            prepared-frame R″ W″ (m .prepared) (λ x (i : 1 ≤ count x (nodes (treeAt t hung))). kr x (omega (arith, single x))) (λ x (i : 1 ≤ count x (nodes (treeAt t hung))). kg x (omega (arith, single x)))
+            prepared-frame R″ W″ (m .prepared)
+            (λ x (i : 1 ≤ count x (nodes (treeAt t hung))). kr x (omega (arith, single x)))
+            (λ x (i : 1 ≤ count x (nodes (treeAt t hung))). kg x (omega (arith, single x)))
 
   pub size-inside : {R₀ W₀ R W : List ℕ} {k g e : ℕ} {b : Bool} {a : Side} {o : Role} → Surveying t s root R₀ W₀ R W k g e b a o → size (treeAt t k) ≤ size (treeAt t root)
   size-inside {k} v = omega (arith, length-within (nodes (treeAt t k)) (nodes (treeAt t root)) (v .inside), length-nodes (treeAt t k), length-nodes (treeAt t root))
@@ -171,15 +188,13 @@ module _ (t : List ℕ) (ok : fault t ≡ 0) (s : Side) (root : ℕ) where
     none-left z = rw (z, tree-none t) refl
 
     pub widest-whole : k ≡ 0 → g ≡ widestOn s S
-    unfolding rolesAfter widest
-    widest-whole z = omega (arith, ap (λ (ls : List SpineNode). widest (parts draw a o ls)) (none-left z), v .widest)
+    widest-whole z = omega (arith, counts-end a o (none-left z) .greatest, v .widest)
 
     pub wide-whole : k ≡ 0 → cond b (g + 3) e ≡ widthOn s S
-    unfolding rolesAfter reaches turns
-    wide-whole z = cc (width-law s S, widest-whole z, counts .0, counts .1)
-      where
-        counts : (e ≡ reaches (partsOn s S)) × (b ≡ turns (partsOn s S))
-        counts = (omega (arith, ap (λ (ls : List SpineNode). reaches (parts draw a o ls)) (none-left z), v .reach), sym (or-none b) ∙ ap (λ (d : Bool). b || d) (sym (ap (λ (ls : List SpineNode). turns (parts draw a o ls)) (none-left z))) ∙ v .turned)
+    wide-whole z = let c = counts-end a o (none-left z) in
+        let far : e ≡ reaches (partsOn s S) = omega (arith, c .farthest, v .reach) in
+        let turned : b ≡ turns (partsOn s S) = sym (or-none b) ∙ ap (λ (d : Bool). b || d) (sym (c .switched)) ∙ v .turned in
+        cc (width-law s S, widest-whole z)
 
     pub along-whole : k ≡ 0 → Along R W s knee (spineOn s S)
     along-whole z = first-along s (spineOn s S) (v .finish R W (λ x i. refl) (λ x i. refl) (subst (AlongAfter R W a o) (sym (none-left z)) ended))
@@ -188,21 +203,25 @@ module _ (t : List ℕ) (ok : fault t ≡ 0) (s : Side) (root : ℕ) where
     root-counted : (x : ℕ) → x ≡ root → 1 + countHung x (spineOn s S) ≤ count x (nodes S)
     root-counted x d = rw (d, tree-unfolds t ok root c) (hung-below s root _ _)
 
-    pub measured : (R₁ : List ℕ) → R₀ ≡ withRoles s (roles (spine (facing s S))) R₁ → length W ≡ 4097 → k ≡ 0 → (w : ℕ) → w ≡ cond b (g + 3) e → Measured t s root R₁ W₀ R (set W root g) w
+    pub measured : (R₁ : List ℕ) → R₀ ≡ withRoles s (roles (spine (facing s S))) R₁ → length W ≡ 4097 → k ≡ 0 → (w : ℕ) → w ≡ cond b (g + 3) e →
+        Measured t s root R₁ W₀ R (set W root g) w
     measured R₁ i l z w j = record {
       wide = j ∙ wide-whole z;
       prepared = top (tree-unfolds t ok root c);
-      kept-roles = λ x n. v .kept-roles x n ∙ (ap (λ (X : List ℕ). getD X x 0) (i ∙ with-whole s S R₁) ∙ with-kept (opposite s) switch (spineOn s S) R₁ x (omega (arith, n, count-spine s x S, along-on x (spineOn s S))));
+      kept-roles = λ x n. v .kept-roles x n ∙ ap (λ (X : List ℕ). getD X x 0) (i ∙ with-whole s S R₁)
+          ∙ with-kept (opposite s) switch (spineOn s S) R₁ x (omega (arith, n, count-spine s x S, along-on x (spineOn s S)));
       kept-widest = λ x n. getD-set-other W root x g 0 (λ d. omega (arith, root-counted x d)) ∙ v .kept-widest x n;
     }
       where
         along : Along R (set W root g) s knee (spineOn s S)
-        along = along-frame R (set W root g) (along-whole z) (λ x q. refl) (λ x (q : 1 ≤ countHung x (spineOn s S)). getD-set-other W root x g 0 (λ d. omega (arith, root-counted x d, once t ok root (inr c) x)))
+        along = along-frame R (set W root g) (along-whole z) (λ x q. refl)
+            (λ x (q : 1 ≤ countHung x (spineOn s S)). getD-set-other W root x g 0 (λ d. omega (arith, root-counted x d, once t ok root (inr c) x)))
 
         top : {A B : Tree} → S ≡ node root A B → Prepared R (set W root g) s S
         top d =
             subst (Prepared R (set W root g) s) (sym d)
-            (a-spine (getD-set-same W root g 0 (omega (arith, named-within t ok root (inr c))) ∙ widest-whole z ∙ ap (widestOn s) d) (subst (λ (U : Tree). Along R (set W root g) s knee (spineOn s U)) d along))
+            (a-spine (getD-set-same W root g 0 (omega (arith, named-within t ok root (inr c))) ∙ widest-whole z ∙ ap (widestOn s) d)
+            (subst (λ (U : Tree). Along R (set W root g) s knee (spineOn s U)) d along))
 
 -- The same at a survey as the program has it.
 pub record Measuring (t : List ℕ) (s : Side) (root : ℕ) (R₀ W₀ R W : List ℕ) (v : Survey) : Type 0 where
@@ -212,12 +231,18 @@ pub record Measuring (t : List ℕ) (s : Side) (root : ℕ) (R₀ W₀ R W : Lis
   pub role : Role
   pub surveying : Surveying t s root R₀ W₀ R W (v .at) (v .widest) (v .reach) (v .turned) hand role
 
-moved : {t : List ℕ} {s a : Side} {o : Role} {root k k′ g g′ e e′ : ℕ} {b b′ : Bool} {R₀ W₀ R W : List ℕ} → k′ ≡ k → g′ ≡ g → e′ ≡ e → b′ ≡ b → Surveying t s root R₀ W₀ R W k g e b a o → Surveying t s root R₀ W₀ R W k′ g′ e′ b′ a o
+moved : {t : List ℕ} {s a : Side} {o : Role} {root k k′ g g′ e e′ : ℕ} {b b′ : Bool} {R₀ W₀ R W : List ℕ} → k′ ≡ k → g′ ≡ g → e′ ≡ e → b′ ≡ b →
+    Surveying t s root R₀ W₀ R W k g e b a o → Surveying t s root R₀ W₀ R W k′ g′ e′ b′ a o
 moved p q r u w = rw (p, q, r, u) w
 
 -- No subtree.
 pub measured-none : (t : List ℕ) (s : Side) (k : ℕ) (R W : List ℕ) → k ≡ 0 → Measured t s k R W R W 0
-measured-none t s k R W e = record { wide = sym (ap (widthOn s) none-there ∙ width-none s); prepared = subst (Prepared R W s) (sym none-there) no-spine; kept-roles = λ x i. refl; kept-widest = λ x i. refl }
+measured-none t s k R W e = record {
+  wide = sym (ap (widthOn s) none-there ∙ width-none s);
+  prepared = subst (Prepared R W s) (sym none-there) no-spine;
+  kept-roles = λ x i. refl;
+  kept-widest = λ x i. refl;
+}
   where
     none-there : treeAt t k ≡ none
     none-there = rw e (tree-none t)
@@ -226,18 +251,21 @@ measured-none t s k R W e = record { wide = sym (ap (widthOn s) none-there ∙ w
 pub measured-small : (t : List ℕ) → fault t ≡ 0 → {s : Side} {k w : ℕ} {R W R′ W′ : List ℕ} → Named t k → Measured t s k R W R′ W′ w → w ≤ 37
 measured-small t ok {s} {k} n m = omega (arith, m .wide, width-small s (treeAt t k) (size-small t ok k n))
 
-module _ (t : List ℕ) (ok : fault t ≡ 0) (s : Side) (root : ℕ) {R₀ W₀ R W : List ℕ} {v : Survey} (c : Measuring t s root R₀ W₀ R W v) {next hung : ℕ} {h : Side} (d : Forked t s (v .at) next hung h) where
+module _ (t : List ℕ) (ok : fault t ≡ 0) (s : Side) (root : ℕ) {R₀ W₀ R W : List ℕ} {v : Survey} (c : Measuring t s root R₀ W₀ R W v)
+    {next hung : ℕ} {h : Side} (d : Forked t s (v .at) next hung h) where
   pub role-small : getD R (v .at) 0 < 6
   role-small = omega (arith, kept-here t ok s root (c .surveying) d .0, code-small (hand t ok s root (c .surveying) d) (role t ok s root (c .surveying) d))
 
-  pub step : (r : CodeRole) → getD R (v .at) 0 ≡ codeOf (handOf r) (roleOf r) → (u : Side) → u ≡ handOf r → (R′ W′ : List ℕ) (w : ℕ) → length R′ ≡ length R → length W′ ≡ length W → Measured t u hung R W R′ W′ w →
+  pub step : (r : CodeRole) → getD R (v .at) 0 ≡ codeOf (handOf r) (roleOf r) → (u : Side) → u ≡ handOf r →
+      (R′ W′ : List ℕ) (w : ℕ) → length R′ ≡ length R → length W′ ≡ length W → Measured t u hung R W R′ W′ w →
       (v′ : Survey) → Longer v r w next v′ → Measuring t s root R₀ W₀ R′ W′ v′
   step r e u i R′ W′ w lr lg m v′ l = record {
     long-roles = lr ∙ c .long-roles;
     long-widest = lg ∙ c .long-widest;
     hand = _;
     role = _;
-    surveying = moved (l .at) (l .widest) (l .reach ∙ ap (λ (o : Role). max (v .reach) (edge o + w)) (same .1)) (l .turned ∙ ap (λ (o : Role). turn o (v .turned)) (same .1))
+    surveying = moved (l .at) (l .widest)
+        (l .reach ∙ ap (λ (o : Role). max (v .reach) (edge o + w)) (same .1)) (l .turned ∙ ap (λ (o : Role). turn o (v .turned)) (same .1))
         (pass t ok s root (c .surveying) d R′ W′ w (subst (λ (a : Side). Measured t a hung R W R′ W′ w) (i ∙ same .0) m));
   }
     where

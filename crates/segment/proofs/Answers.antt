@@ -8,7 +8,7 @@ use lib.IntN.{ℤ, pos}
 use lib.Signed.{leZ, ltZ}
 use Rattle.segment.specs.declared.Point.{Point}
 use Rattle.segment.specs.Segment.{cross}
-use Rattle.segment.specs.inner.Test.{overlap, spans, astride, splits, divides}
+use Rattle.segment.specs.inner.Test.{overlap, spans, astride}
 use Rattle.segment.proofs.Decides.{Decides}
 use Rattle.segment.proofs.SharedPoint.{meets}
 use Rattle.segment.proofs.Crossing.{crosses}
@@ -46,27 +46,20 @@ pub overlap-by : {l h l′ h′ : ℕ} (a b x y : ℕ) → l ≡ min a b → h �
 unfolding overlap
 overlap-by a b x y e f g i = cc
 
-pub spans-by : {d′ e′ : ℤ} (d e : ℤ) → d′ ≡ d → e′ ≡ e → (leZ d′ (pos 0) && leZ (pos 0) e′) ≡ spans d e
+pub spans-by : (by : ℤ → ℤ → Bool) {d′ e′ : ℤ} (d e : ℤ) → d′ ≡ d → e′ ≡ e → (by d′ (pos 0) && by (pos 0) e′) ≡ spans by d e
 unfolding spans
-spans-by d e x y = cc
+spans-by by d e x y = cc
 
-pub splits-by : {d′ e′ : ℤ} (d e : ℤ) → d′ ≡ d → e′ ≡ e → (ltZ d′ (pos 0) && ltZ (pos 0) e′) ≡ splits d e
-unfolding splits
-splits-by d e x y = cc
-
-pub astride-by : {d e : ℤ} {s t : Bool} (A B X Y : Point) → d ≡ cross A B X → e ≡ cross A B Y → s ≡ spans d e → t ≡ spans e d → (s || t) ≡ astride A B X Y
+pub astride-by : (by : ℤ → ℤ → Bool) {d e : ℤ} {s t : Bool} (A B X Y : Point) → d ≡ cross A B X → e ≡ cross A B Y → s ≡ spans by d e → t ≡ spans by e d →
+    (s || t) ≡ astride by A B X Y
 unfolding astride
-astride-by A B X Y d e s t = cc
+astride-by by A B X Y d e s t = cc
 
 pub meets-by : {o n a b : Bool} (P Q R S : Point) → o ≡ overlap (P .row) (Q .row) (R .row) (S .row) → n ≡ overlap (P .column) (Q .column) (R .column) (S .column) →
-    a ≡ astride P Q R S → b ≡ astride R S P Q → (o && (n && (a && b))) ≡ meets P Q R S
+    a ≡ astride leZ P Q R S → b ≡ astride leZ R S P Q → (o && (n && (a && b))) ≡ meets P Q R S
 unfolding meets
 meets-by P Q R S o n a b = cc
 
-pub divides-by : {d e : ℤ} {s t : Bool} (A B X Y : Point) → d ≡ cross A B X → e ≡ cross A B Y → s ≡ splits d e → t ≡ splits e d → (s || t) ≡ divides A B X Y
-unfolding divides
-divides-by A B X Y d e s t = cc
-
-pub crosses-by : {a b : Bool} (P Q R S : Point) → a ≡ divides P Q R S → b ≡ divides R S P Q → (a && b) ≡ crosses P Q R S
+pub crosses-by : {a b : Bool} (P Q R S : Point) → a ≡ astride ltZ P Q R S → b ≡ astride ltZ R S P Q → (a && b) ≡ crosses P Q R S
 unfolding crosses
 crosses-by P Q R S a b = cc

@@ -1,5 +1,5 @@
--- When two segments clash: with a common end, where each has another end and one of those lies on the other segment; with none, where they share a point. Rests on Weights and CrossProduct.
-use mathlib.Core.Path.{_≡_, refl, ap, ap₂, sym, subst₂, _∙_}
+-- When two segments clash: with a common end, where each has another end and one of those lies on the other segment; with none, where they share a point. Rests on SharedPoint.
+use mathlib.Core.Path.{_≡_, refl, ap, ap₂, sym, _∙_}
 use mathlib.Core.Logic.{_↔_, _≢_, _⊎_, inl, inr, ⊎-elim, ⊎-map, ⊎-swap}
 use mathlib.Core.Bool.{Bool, _&&_}
 use Prim.Native.Nat.{ℕ, _+_, _*_, _≤_, _<_}
@@ -9,11 +9,12 @@ use native.Mathlib.Omega.{arith}
 use lib.Dec.{eqb}
 use lib.IntN.{pos}
 use Rattle.segment.specs.declared.Point.{Point}
-use Rattle.segment.specs.Segment.{at, On, cross, Share, Lies, Clash}
+use Rattle.segment.specs.Segment.{at, cross, Share, Is, Lies, Clash}
 use Rattle.segment.proofs.Decides.{Decides, eq-decides, and-decides, same-meaning}
-use Rattle.segment.proofs.Weights.{Weights, weights, on, on-turn, at-start, at-end, at-point}
+use Rattle.segment.proofs.Weights.{Weights, weights, on, at-start, at-end, at-point}
 use Rattle.segment.proofs.Difference.{diff-zero}
 use Rattle.segment.proofs.CrossProduct.{plus, minus, cross-diff}
+use Rattle.segment.proofs.SharedPoint.{share-exchange, share-turn, share→lies}
 
 unfoldable pub same : Point → Point → Bool
 same P Q = eqb (P .column) (Q .column) && eqb (P .row) (Q .row)
@@ -31,16 +32,17 @@ pub same-decides : (P Q : Point) → Decides (same P Q) (P ≡ Q)
 unfolding same
 same-decides P Q = same-meaning (λ z. point (z .0) (z .1), λ e. (column-same e, row-same e)) (and-decides (eq-decides _ _) (eq-decides _ _))
 
-pub clash→share : {P Q R S : Point} → Clash P Q R S → Share P Q R S
-clash→share h = record { q = h .q; x = h .x; y = h .y; q≥1 = h .q≥1; on-PQ = h .on-PQ; on-RS = h .on-RS }
+-- B and C are the point (x, y) / q
+one-point : {B C : Point} {q x y : ℕ} → 1 ≤ q → Is B q x y → Is C q x y → B ≡ C
+one-point {q = q} one b c = point (eq-of-mul-eq-mul-left q one _ _ (sym (b .in-column) ∙ c .in-column)) (eq-of-mul-eq-mul-left q one _ _ (sym (b .in-row) ∙ c .in-row))
 
 -- ---- symmetries
 
 pub clash-exchange : {P Q R S : Point} → Clash P Q R S → Clash R S P Q
-clash-exchange h = record { q = h .q; x = h .x; y = h .y; q≥1 = h .q≥1; on-PQ = h .on-RS; on-RS = h .on-PQ; no-common-end = λ E a b. h .no-common-end E b a }
+clash-exchange h = record { share = share-exchange (h .share); no-common-end = λ E a b. h .no-common-end E b a }
 
 pub clash-turn : {P Q R S : Point} → Clash P Q R S → Clash P Q S R
-clash-turn h = record { q = h .q; x = h .x; y = h .y; q≥1 = h .q≥1; on-PQ = h .on-PQ; on-RS = on-turn (h .on-RS); no-common-end = λ E a b. h .no-common-end E a (⊎-swap b) }
+clash-turn h = record { share = share-turn (h .share); no-common-end = λ E a b. h .no-common-end E a (⊎-swap b) }
 
 -- ---- a common end P of P A and P B
 
@@ -52,12 +54,14 @@ middle q a b e one h (inr k) = eq-of-mul-eq-mul-left q one a b (omega (arith, ap
 -- A lies on P B: the segments share the middle of P A
 lies→clash : {P A B : Point} → P ≢ A → Lies A P B → Clash P A P B
 lies→clash {P} {A} {B} n l = let w = weights (l .on) in record {
-  q = 2 * l .q;
-  x = l .q * (P .column + A .column);
-  y = l .q * (P .row + A .row);
-  q≥1 = omega (arith, l .q≥1);
-  on-PQ = on (record { u = l .q; v = l .q; sum = omega arith; in-column = omega arith; in-row = omega arith });
-  on-RS = on (record { u = l .q + w .u; v = w .v; sum = omega (arith, w .sum); in-column = omega (arith, w .in-column); in-row = omega (arith, w .in-row) });
+  share = record {
+    q = 2 * l .q;
+    x = l .q * (P .column + A .column);
+    y = l .q * (P .row + A .row);
+    q≥1 = omega (arith, l .q≥1);
+    on-PQ = on (record { u = l .q; v = l .q; sum = omega arith; in-column = omega arith; in-row = omega arith });
+    on-RS = on (record { u = l .q + w .u; v = w .v; sum = omega (arith, w .sum); in-column = omega (arith, w .in-column); in-row = omega (arith, w .in-row) });
+  };
   no-common-end = λ E a b i. n
       (point (middle _ _ _ _ (l .q≥1) (i .in-column) (⊎-map column-same column-same a)) (middle _ _ _ _ (l .q≥1) (i .in-row) (⊎-map row-same row-same a)));
 }
@@ -81,22 +85,24 @@ nearer {P} {A} {B} a b h one = go (le-dest h)
 
 -- a segment of one point clashes with a segment that it lies on and does not end
 pub point-lies : {B P Q : Point} → Clash B B P Q → Lies B P Q
-point-lies {P = P} {Q} c = let i = at-point (weights (c .on-PQ)) refl in record { q = c .q; q≥1 = c .q≥1; on = subst₂ (λ (x y : ℕ). On P Q (c .q) x y) (i .in-column) (i .in-row) (c .on-RS) }
+point-lies c = share→lies (share-exchange (c .share))
 
 pub point-ends : {B P Q : Point} → Clash B B P Q → (B ≡ P) ⊎ (B ≡ Q) → ⊥
-point-ends {B} c e = c .no-common-end B (inl refl) e (at-point (weights (c .on-PQ)) refl)
+point-ends {B} c e = c .no-common-end B (inl refl) e (at-point (weights (c .share .on-PQ)) refl)
 
 -- two points do not clash: what they share ends both
 pub points-apart : {A B : Point} → Clash A A B B → ⊥
 points-apart {A} {B} c =
-    let i = at-point (weights (c .on-PQ)) refl in
-    let j = at-point (weights (c .on-RS)) refl in
-    point-ends c (inl (point (eq-of-mul-eq-mul-left (c .q) (c .q≥1) _ _ (sym (i .in-column) ∙ j .in-column)) (eq-of-mul-eq-mul-left (c .q) (c .q≥1) _ _ (sym (i .in-row) ∙ j .in-row))))
+    let s = c .share in
+    point-ends c (inl (one-point (s .q≥1) (at-point (weights (s .on-PQ)) refl) (at-point (weights (s .on-RS)) refl)))
 
 clash→lies : {P A B : Point} → Clash P A P B → Lies A P B ⊎ Lies B P A
-clash→lies {P} {A} {B} h = go (weights (h .on-PQ)) (weights (h .on-RS)) (decLe _ _) (decLt 0 _)
+clash→lies {P} {A} {B} h = go (weights (z .on-PQ)) (weights (z .on-RS)) (decLe _ _) (decLt 0 _)
   where
-    go : (a : Weights P A (h .q) (h .x) (h .y)) (b : Weights P B (h .q) (h .x) (h .y)) → Dec (a .v ≤ b .v) → Dec (0 < b .v) → Lies A P B ⊎ Lies B P A
+    z : Share P A P B
+    z = h .share
+
+    go : (a : Weights P A (z .q) (z .x) (z .y)) (b : Weights P B (z .q) (z .x) (z .y)) → Dec (a .v ≤ b .v) → Dec (0 < b .v) → Lies A P B ⊎ Lies B P A
     go a b (yes l) (yes one) = inr (nearer a b l one)
     go a b (yes l) (no z) = absurd (h .no-common-end P (inl refl) (inl refl) (at-end b (omega arith)))
     go a b (no l) z = inl (nearer b a (omega arith) (omega arith))
@@ -105,8 +111,8 @@ pub common-end : {P A B : Point} → ((P ≢ A) × ((P ≢ B) × (Lies A P B ⊎
 common-end {P} = (
   λ z. ⊎-elim (lies→clash (z .0)) (λ l. clash-exchange (lies→clash (z .1 .0) l)) (z .1 .1),
   λ h. (
-    λ e. h .no-common-end P (inl refl) (inl refl) (at-point (weights (h .on-PQ)) (sym e)),
-    (λ e. h .no-common-end P (inl refl) (inl refl) (at-point (weights (h .on-RS)) (sym e)), clash→lies h),
+    λ e. h .no-common-end P (inl refl) (inl refl) (at-point (weights (h .share .on-PQ)) (sym e)),
+    (λ e. h .no-common-end P (inl refl) (inl refl) (at-point (weights (h .share .on-RS)) (sym e)), clash→lies h),
   ),
 )
 
@@ -128,13 +134,8 @@ clash→in-line {P} {A} {B} h = diff-zero _ (cross-diff P A B) (⊎-elim lies→
 -- ---- a node B on a line that it does not end, and a line from B
 pub on-line→clash : {B C P Q : Point} → B ≢ P → B ≢ Q → Lies B P Q → Clash P Q B C
 on-line→clash {B} {C} n m l = record {
-  q = l .q;
-  x = l .q * B .column;
-  y = l .q * B .row;
-  q≥1 = l .q≥1;
-  on-PQ = l .on;
-  on-RS = at-start B C (l .q);
-  no-common-end = λ E a b i. let e = point (eq-of-mul-eq-mul-left (l .q) (l .q≥1) _ _ (i .in-column)) (eq-of-mul-eq-mul-left (l .q) (l .q≥1) _ _ (i .in-row)) in
+  share = record { q = l .q; x = l .q * B .column; y = l .q * B .row; q≥1 = l .q≥1; on-PQ = l .on; on-RS = at-start B C (l .q) };
+  no-common-end = λ E a b i. let e = one-point (l .q≥1) (record { in-column = refl; in-row = refl }) i in
       ⊎-elim (λ k. n (e ∙ k)) (λ k. m (e ∙ k)) a;
 }
 
@@ -142,11 +143,6 @@ on-line→clash {B} {C} n m l = record {
 
 pub no-common : {P Q R S : Point} → P ≢ R → P ≢ S → Q ≢ R → Q ≢ S → Share P Q R S → Clash P Q R S
 no-common n₁ n₂ n₃ n₄ h = record {
-  q = h .q;
-  x = h .x;
-  y = h .y;
-  q≥1 = h .q≥1;
-  on-PQ = h .on-PQ;
-  on-RS = h .on-RS;
+  share = h;
   no-common-end = λ E a b i. ⊎-elim (λ p. ⊎-elim (λ r. n₁ (sym p ∙ r)) (λ s. n₂ (sym p ∙ s)) b) (λ p. ⊎-elim (λ r. n₃ (sym p ∙ r)) (λ s. n₄ (sym p ∙ s)) b) a;
 }

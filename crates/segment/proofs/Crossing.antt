@@ -6,35 +6,26 @@ use Prim.Native.Nat.{ℕ, _+_, _*_, _≤_, _<_}
 use native.Mathlib.Nat.{mul-le-mul-left, eq-of-mul-eq-mul-left}
 use native.Mathlib.Decide.{decLt}
 use native.Mathlib.Omega.{arith}
+use lib.Signed.{ltZ}
 use Rattle.segment.specs.declared.Point.{Point}
 use Rattle.segment.specs.Segment.{Share, Clash}
 use Rattle.segment.specs.Meeting.{Inside, Parallel, Crosses}
-use Rattle.segment.specs.inner.Test.{splits, divides, transpose}
-use Rattle.segment.proofs.Decides.{Decides, and-decides, or-decides, same-meaning}
+use Rattle.segment.specs.inner.Test.{astride, transpose}
+use Rattle.segment.proofs.Decides.{Decides, and-decides, same-meaning}
 use Rattle.segment.proofs.Weights.{Weights, weights, on, turned}
 use Rattle.segment.proofs.Difference.{diff-pos, diff-mul, diff-equal, diff-negative, diff-positive}
-use Rattle.segment.proofs.CrossProduct.{plus, minus, cross-diff, linear}
-use Rattle.segment.proofs.SharedPoint.{cut}
+use Rattle.segment.proofs.CrossProduct.{plus, minus, linear}
+use Rattle.segment.proofs.SharedPoint.{Astride, astride-decides, cut}
 use Rattle.segment.proofs.Clashing.{no-common}
 
 -- the test of crossings
 unfoldable pub crosses : Point → Point → Point → Point → Bool
-crosses P Q R S = divides P Q R S && divides R S P Q
+crosses P Q R S = astride ltZ P Q R S && astride ltZ R S P Q
 
 -- ---- the test over ℕ
 
-abbrev Divided : Point → Point → Point → Point → Type 0
-Divided A B X Y = ((plus A B X < minus A B X) × (minus A B Y < plus A B Y)) ⊎ ((plus A B Y < minus A B Y) × (minus A B X < plus A B X))
-
 abbrev Parted : Point → Point → Point → Point → Type 0
-Parted P Q R S = Divided P Q R S × Divided R S P Q
-
-divides-decides : (A B X Y : Point) → Decides (divides A B X Y) (Divided A B X Y)
-unfolding divides splits
-divides-decides A B X Y =
-    let x = cross-diff A B X in
-    let y = cross-diff A B Y in
-    or-decides (and-decides (diff-negative _ x) (diff-positive _ y)) (and-decides (diff-negative _ y) (diff-positive _ x))
+Parted P Q R S = Astride _<_ P Q R S × Astride _<_ R S P Q
 
 -- ---- a crossing gives the test
 
@@ -140,7 +131,10 @@ parted→crosses P Q R S (inr x, inr y) = absurd (omega arith)
 
 pub crosses-decides : (P Q R S : Point) → Decides (crosses P Q R S) (Crosses P Q R S)
 unfolding crosses
-crosses-decides P Q R S = same-meaning (parted→crosses P Q R S, crosses→parted) (and-decides (divides-decides P Q R S) (divides-decides R S P Q))
+crosses-decides P Q R S = same-meaning (parted→crosses P Q R S, crosses→parted) (and-decides (sides P Q R S) (sides R S P Q))
+  where
+    sides : (A B X Y : Point) → Decides (astride ltZ A B X Y) (Astride _<_ A B X Y)
+    sides = astride-decides ltZ _<_ (λ z m n. diff-negative z) (λ z m n. diff-positive z)
 
 -- ---- a crossing is a clash: it has no common end
 
@@ -151,7 +145,7 @@ crosses→share h = record { q = h .q; x = h .x; y = h .y; q≥1 = omega (arith,
 pub no-common-start : {P Q R S : Point} → Crosses P Q R S → (P ≢ R) × (P ≢ S)
 no-common-start {P} {Q} {R} {S} h = (λ e. go R S (crosses→parted h .0) e, λ e. go S R (⊎-swap (crosses→parted h .0)) e)
   where
-    go : (R S : Point) → Divided P Q R S → P ≡ R → ⊥
+    go : (R S : Point) → Astride _<_ P Q R S → P ≡ R → ⊥
     go R S d e = ⊎-elim (λ z. omega (arith, rw (← e) at (z .0))) (λ z. omega (arith, rw (← e) at (z .1))) d
 
 pub crosses→clash : {P Q R S : Point} → Crosses P Q R S → Clash P Q R S

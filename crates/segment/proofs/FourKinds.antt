@@ -10,7 +10,7 @@ use Rattle.segment.specs.Meeting.{MeetsAtEnd, Crosses, Touches, MeetSo}
 use Rattle.segment.proofs.Decides.{Decides, dec, not-decides, and-decides, or-decides, cond-decides, same-meaning}
 use Rattle.segment.proofs.Weights.{at-start}
 use Rattle.segment.proofs.SharedPoint.{meets, meets-decides-share, lies-decides}
-use Rattle.segment.proofs.Clashing.{same, same-decides, clash→share, common-end, no-common}
+use Rattle.segment.proofs.Clashing.{same, same-decides, common-end, no-common}
 use Rattle.segment.proofs.Crossing.{crosses-decides, crosses→share, crosses→clash, no-common-start}
 use Rattle.segment.proofs.Alike.{Alike, common-PR, common-PS, common-QR, common-QS}
 
@@ -36,7 +36,7 @@ clashes-decides P Q R S =
     cond-decides (same-decides P S) (λ e. same-meaning (common-PS e .clash) (along-decides P Q R)) (λ n₂.
     cond-decides (same-decides Q R) (λ e. same-meaning (common-QR e .clash) (along-decides Q P S)) (λ n₃.
     cond-decides (same-decides Q S) (λ e. same-meaning (common-QS e .clash) (along-decides Q P R)) (λ n₄.
-    same-meaning (no-common n₁ n₂ n₃ n₄, clash→share) (meets-decides-share P Q R S)))))
+    same-meaning (no-common n₁ n₂ n₃ n₄, λ c. c .share) (meets-decides-share P Q R S)))))
 
 -- ---- they exclude each other
 
@@ -64,7 +64,7 @@ one-kind Touching Touching P Q R S a b = refl
 -- ---- they leave nothing out
 
 pub touches-by : {P Q R S : Point} → Clash P Q R S → (Crosses P Q R S → ⊥) → Touches P Q R S
-touches-by c x = record { share = clash→share c; not-at-end = λ e. e .no-clash c; not-crossing = x }
+touches-by c x = record { share = c .share; not-at-end = λ e. e .no-clash c; not-crossing = x }
 
 pub some-kind : (P Q R S : Point) → (m : Meeting) × MeetSo m P Q R S
 some-kind P Q R S = go (dec (meets-decides-share P Q R S)) (dec (clashes-decides P Q R S)) (dec (crosses-decides P Q R S))

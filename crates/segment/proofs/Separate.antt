@@ -9,7 +9,7 @@ use Rattle.segment.specs.declared.Point.{Point}
 use Rattle.segment.specs.Segment.{Share, Clash}
 use Rattle.segment.specs.inner.Test.{transpose, number}
 use Rattle.segment.proofs.Weights.{Weights, weights, at-end, at-point}
-use Rattle.segment.proofs.SharedPoint.{on-transpose, share-transpose, rows-apart}
+use Rattle.segment.proofs.SharedPoint.{share-transpose, rows-apart}
 use Rattle.segment.proofs.Clashing.{point}
 
 -- ---- rows for columns
@@ -17,12 +17,7 @@ use Rattle.segment.proofs.Clashing.{point}
 -- also backwards, since transpose (transpose P) is P
 pub clash-transpose : (P Q R S : Point) → Clash P Q R S → Clash (transpose P) (transpose Q) (transpose R) (transpose S)
 clash-transpose P Q R S h = record {
-  q = h .q;
-  x = h .y;
-  y = h .x;
-  q≥1 = h .q≥1;
-  on-PQ = on-transpose (transpose P) (transpose Q) (h .on-PQ);
-  on-RS = on-transpose (transpose R) (transpose S) (h .on-RS);
+  share = share-transpose (transpose P) (transpose Q) (transpose R) (transpose S) (h .share);
   no-common-end = λ E a b i. h .no-common-end (transpose E) (⊎-map (ap transpose) (ap transpose) a) (⊎-map (ap transpose) (ap transpose) b) (record { in-column = i .in-row; in-row = i .in-column });
 }
 
@@ -57,8 +52,11 @@ lowest u v t w q n m k l h h′ one e nm kl ln = (f, go (decLt 0 v))
 
 -- P Q starts at the number that R S ends at, or after it: they share at most the point P
 pub numbers-apart : (b : ℕ) {P Q R S : Point} → P .column < b → Q .column < b → S .column < b → number b P ≤ number b Q → number b R ≤ number b S → number b S ≤ number b P → Clash P Q R S → ⊥
-numbers-apart b {P} {Q} {R} {S} p q s pq rs sp c = go (weights (c .on-PQ)) (weights (c .on-RS))
+numbers-apart b {P} {Q} {R} {S} p q s pq rs sp c = go (weights (h .on-PQ)) (weights (h .on-RS))
   where
-    go : Weights P Q (c .q) (c .x) (c .y) → Weights R S (c .q) (c .x) (c .y) → ⊥
-    go a d = let z = lowest (a .u) (a .v) (d .u) (d .v) (c .q) _ _ _ _ (a .sum) (d .sum) (c .q≥1) (sym (numbered b a) ∙ numbered b d) pq rs sp in
+    h : Share P Q R S
+    h = c .share
+
+    go : Weights P Q (h .q) (h .x) (h .y) → Weights R S (h .q) (h .x) (h .y) → ⊥
+    go a d = let z = lowest (a .u) (a .v) (d .u) (d .v) (h .q) _ _ _ _ (a .sum) (d .sum) (h .q≥1) (sym (numbered b a) ∙ numbered b d) pq rs sp in
         c .no-common-end P (inl refl) (inr (sym (number-once b s p (z .0)))) (⊎-elim (at-end a) (λ e. at-point a (number-once b q p e)) (z .1))

@@ -6,57 +6,64 @@ use Prim.Native.Nat.{ℕ, _+_, _*_, _≤_, _<_, min, max}
 use native.Mathlib.Nat.{mul-le-mul-left, le-of-mul-le-mul-left, le-dest, min-le-left, min-le-right, le-max-left, le-max-right}
 use native.Mathlib.Decide.{decLe, decLt, ℕ-discrete}
 use native.Mathlib.Omega.{arith}
+use lib.IntN.{ℤ, pos}
+use lib.Signed.{leZ}
 use Rattle.segment.specs.declared.Point.{Point}
 use Rattle.segment.specs.Segment.{On, Share, Lies}
 use Rattle.segment.specs.inner.Test.{overlap, spans, astride, transpose}
 use Rattle.segment.proofs.Decides.{Decides, le-decides, and-decides, or-decides, same-meaning}
 use Rattle.segment.proofs.Weights.{Weights, weights, on, on-turn, at-start}
-use Rattle.segment.proofs.Difference.{diff-nonneg, diff-nonpos}
+use Rattle.segment.proofs.Difference.{Diff, diff-nonneg, diff-nonpos}
 use Rattle.segment.proofs.CrossProduct.{plus, minus, cross-diff, linear, cramer-column, cramer-row}
 
 -- the test of shared points
 unfoldable pub meets : Point → Point → Point → Point → Bool
-meets P Q R S = overlap (P .row) (Q .row) (R .row) (S .row) && (overlap (P .column) (Q .column) (R .column) (S .column) && (astride P Q R S && astride R S P Q))
+meets P Q R S = overlap (P .row) (Q .row) (R .row) (S .row) && (overlap (P .column) (Q .column) (R .column) (S .column) && (astride leZ P Q R S && astride leZ R S P Q))
 
 -- ---- the test over ℕ
 
 abbrev pub Overlap : ℕ → ℕ → ℕ → ℕ → Type 0
 Overlap a b x y = (min a b ≤ max x y) × (min x y ≤ max a b)
 
-abbrev pub Astride : Point → Point → Point → Point → Type 0
-Astride A B X Y = ((plus A B X ≤ minus A B X) × (minus A B Y ≤ plus A B Y)) ⊎ ((plus A B Y ≤ minus A B Y) × (minus A B X ≤ plus A B X))
+-- X and Y on the two sides of the line through A and B, by _≤_ or by _<_
+abbrev pub Astride : (ℕ → ℕ → Type 0) → Point → Point → Point → Point → Type 0
+Astride by A B X Y = (by (plus A B X) (minus A B X) × by (minus A B Y) (plus A B Y)) ⊎ (by (plus A B Y) (minus A B Y) × by (minus A B X) (plus A B X))
 
 abbrev pub Meets : Point → Point → Point → Point → Type 0
-Meets P Q R S = Overlap (P .row) (Q .row) (R .row) (S .row) × (Overlap (P .column) (Q .column) (R .column) (S .column) × (Astride P Q R S × Astride R S P Q))
+Meets P Q R S = Overlap (P .row) (Q .row) (R .row) (S .row) × (Overlap (P .column) (Q .column) (R .column) (S .column) × (Astride _≤_ P Q R S × Astride _≤_ R S P Q))
 
 overlap-decides : (a b x y : ℕ) → Decides (overlap a b x y) (Overlap a b x y)
 unfolding overlap
 overlap-decides a b x y = and-decides (le-decides _ _) (le-decides _ _)
 
-astride-decides : (A B X Y : Point) → Decides (astride A B X Y) (Astride A B X Y)
+pub astride-decides : (b : ℤ → ℤ → Bool) (R : ℕ → ℕ → Type 0) → ((z : ℤ) (m n : ℕ) → Diff z m n → Decides (b z (pos 0)) (R m n)) →
+    ((z : ℤ) (m n : ℕ) → Diff z m n → Decides (b (pos 0) z) (R n m)) → (A B X Y : Point) → Decides (astride b A B X Y) (Astride R A B X Y)
 unfolding astride spans
-astride-decides A B X Y =
+astride-decides b R below above A B X Y =
     let x = cross-diff A B X in
     let y = cross-diff A B Y in
-    or-decides (and-decides (diff-nonpos _ x) (diff-nonneg _ y)) (and-decides (diff-nonpos _ y) (diff-nonneg _ x))
+    or-decides (and-decides (below _ _ _ x) (above _ _ _ y)) (and-decides (below _ _ _ y) (above _ _ _ x))
 
 meets-decides : (P Q R S : Point) → Decides (meets P Q R S) (Meets P Q R S)
 unfolding meets
-meets-decides P Q R S = and-decides (overlap-decides _ _ _ _) (and-decides (overlap-decides _ _ _ _) (and-decides (astride-decides _ _ _ _) (astride-decides _ _ _ _)))
+meets-decides P Q R S = and-decides (overlap-decides _ _ _ _) (and-decides (overlap-decides _ _ _ _) (and-decides (sides P Q R S) (sides R S P Q)))
+  where
+    sides : (A B X Y : Point) → Decides (astride leZ A B X Y) (Astride _≤_ A B X Y)
+    sides = astride-decides leZ _≤_ (λ z m n. diff-nonpos z) (λ z m n. diff-nonneg z)
 
 -- ---- symmetries of the meaning
 
-pub share-exchange : {P Q R S : Point} → Share P Q R S → Share R S P Q
+abbrev pub share-exchange : {P Q R S : Point} → Share P Q R S → Share R S P Q
 share-exchange h = record { q = h .q; x = h .x; y = h .y; q≥1 = h .q≥1; on-PQ = h .on-RS; on-RS = h .on-PQ }
 
-pub share-turn : {P Q R S : Point} → Share P Q R S → Share P Q S R
+abbrev pub share-turn : {P Q R S : Point} → Share P Q R S → Share P Q S R
 share-turn h = record { q = h .q; x = h .x; y = h .y; q≥1 = h .q≥1; on-PQ = h .on-PQ; on-RS = on-turn (h .on-RS) }
 
 -- rows for columns
 pub on-transpose : (A B : Point) {q x y : ℕ} → On (transpose A) (transpose B) q x y → On A B q y x
 on-transpose A B o = record { s = o .s; s≤q = o .s≤q; at-column = o .at-row; at-row = o .at-column }
 
-pub share-transpose : (P Q R S : Point) → Share (transpose P) (transpose Q) (transpose R) (transpose S) → Share P Q R S
+abbrev pub share-transpose : (P Q R S : Point) → Share (transpose P) (transpose Q) (transpose R) (transpose S) → Share P Q R S
 share-transpose P Q R S h = record { q = h .q; x = h .y; y = h .x; q≥1 = h .q≥1; on-PQ = on-transpose P Q (h .on-PQ); on-RS = on-transpose R S (h .on-RS) }
 
 -- ---- a shared point gives the test
@@ -226,7 +233,7 @@ meets→share P Q R S (n, (o, (a, b))) = go a b
         cases (yes d) = crossing P Q R S d (cut P Q R S s₁ s₂ s₃ s₄)
         cases (no d) = in-line P Q R S (omega arith) (omega arith) (omega arith) (omega arith) n o
 
-    go : Astride P Q R S → Astride R S P Q → Share P Q R S
+    go : Astride _≤_ P Q R S → Astride _≤_ R S P Q → Share P Q R S
     go (inl x) (inl y) = in-line P Q R S (omega arith) (omega arith) (omega arith) (omega arith) n o
     go (inl x) (inr y) = less P Q R S n o (x .0) (x .1) (y .1) (y .0)
     go (inr x) (inl y) = share-turn (less P Q S R (omega arith) (omega arith) (x .0) (x .1) (omega arith) (omega arith))

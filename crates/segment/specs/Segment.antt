@@ -43,10 +43,5 @@ cross P A B = (pos (A .column) -ℤ pos (P .column)) *ℤ (pos (B .row) -ℤ pos
 
 -- "two different lines share a point other than a box that both end at", for two lines by the points of their ends
 pub record Clash (P Q R S : Point) : Type 0 where
-  pub q : ℕ
-  pub x : ℕ
-  pub y : ℕ
-  pub q≥1 : 1 ≤ q
-  pub on-PQ : On P Q q x y
-  pub on-RS : On R S q x y
-  pub no-common-end : (E : Point) → (E ≡ P) ⊎ (E ≡ Q) → (E ≡ R) ⊎ (E ≡ S) → Is E q x y → ⊥
+  pub share : Share P Q R S
+  pub no-common-end : (E : Point) → (E ≡ P) ⊎ (E ≡ Q) → (E ≡ R) ⊎ (E ≡ S) → Is E (share .q) (share .x) (share .y) → ⊥

@@ -6,6 +6,7 @@ ghost use mathlib.Core.Logic.{_↔_};
 ghost use Prim.Native.Nat.{min, max};
 ghost use lib.Dec.{T};
 ghost use lib.IntN.{pos, _-ℤ_};
+ghost use lib.Signed.{leZ, ltZ};
 ghost use Rattle.segment.specs.Segment as Meaning;
 ghost use Rattle.segment.specs.Meeting.{Crosses};
 ghost use Rattle.segment.specs.inner.Test as Test;
@@ -52,21 +53,21 @@ fn overlap(a: u16, b: u16, x: u16, y: u16) -> bool
 
 // Is zero from d to e?
 fn spans(d: i64, e: i64) -> bool
-    ensures { λ z. ⌜ z ≡ Test.spans d e ⌝ }
+    ensures { λ z. ⌜ z ≡ Test.spans leZ d e ⌝ }
 {
     d <= 0 && e >= 0
 }
 
 // Is d below zero and e above?
 fn splits(d: i64, e: i64) -> bool
-    ensures { λ z. ⌜ z ≡ Test.splits d e ⌝ }
+    ensures { λ z. ⌜ z ≡ Test.spans ltZ d e ⌝ }
 {
     d < 0 && e > 0
 }
 
 // Are x and y not both strictly on one side of the line through a and b?
 fn astride(a: Point, b: Point, x: Point, y: Point) -> bool
-    ensures { λ z. ⌜ z ≡ Test.astride a b x y ⌝ }
+    ensures { λ z. ⌜ z ≡ Test.astride leZ a b x y ⌝ }
 {
     let d = cross(a, b, x);
     let e = cross(a, b, y);
@@ -75,7 +76,7 @@ fn astride(a: Point, b: Point, x: Point, y: Point) -> bool
 
 // Are x and y strictly on either side of the line through a and b?
 fn divides(a: Point, b: Point, x: Point, y: Point) -> bool
-    ensures { λ z. ⌜ z ≡ Test.divides a b x y ⌝ }
+    ensures { λ z. ⌜ z ≡ Test.astride ltZ a b x y ⌝ }
 {
     let d = cross(a, b, x);
     let e = cross(a, b, y);

@@ -13,7 +13,7 @@ use Rattle.segment.specs.Segment.{Share, Clash}
 use Rattle.segment.specs.Meeting.{Crosses, MeetSo}
 use Rattle.segment.specs.inner.Test.{number}
 use Rattle.segment.proofs.SharedPoint.{share-exchange}
-use Rattle.segment.proofs.Clashing.{clash→share, clash-exchange}
+use Rattle.segment.proofs.Clashing.{clash-exchange}
 use Rattle.segment.proofs.Separate.{columns-apart, number-once, numbers-apart}
 use Rattle.segment.proofs.Crossing.{crosses→clash}
 use Rattle.segment.proofs.FourKinds.{one-kind, some-kind, touches→clash}
@@ -33,7 +33,7 @@ worst-grade m Touching h = omega arith
 
 -- A meeting is a fault where the lines clash.
 pub clash-graded : (m : Meeting) (P Q R S : Point) → MeetSo m P Q R S → Clash P Q R S ↔ (1 ≤ grade m)
-clash-graded Separate P Q R S a = (λ c. absurd (a (clash→share c)), λ h. absurd (omega arith))
+clash-graded Separate P Q R S a = (λ c. absurd (a (c .share)), λ h. absurd (omega arith))
 clash-graded SharedEnd P Q R S a = (λ c. absurd (a .no-clash c), λ h. absurd (omega arith))
 clash-graded Crossing P Q R S a = (λ c. omega arith, λ h. crosses→clash a)
 clash-graded Touching P Q R S a = (λ c. omega arith, λ h. touches→clash a)

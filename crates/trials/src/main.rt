@@ -31,7 +31,6 @@ use crate::input::give;
 use crate::input::next_bytes;
 use crate::input::next_head;
 use crate::input::next_number;
-use crate::text::number;
 use crate::text::put;
 use crate::text::put_all;
 use crate::text::put_changed;
@@ -44,6 +43,7 @@ use drawing::Plan;
 use hanging::Hung;
 use line::end;
 use line::start;
+use line::widened;
 use pen::strokes::Stroke;
 use records::writing::copy;
 use segment::meeting::Meeting;
@@ -66,9 +66,9 @@ fn put_plan(out: &mut [u8], used: usize, plan: Plan) -> usize
     requires { ⌜ used ≤ length (now out) ⌝ }
     ensures { λ r. ⌜ r ≤ length (now (out .entry)) ⌝ }
 {
-    let noded = put_field(out, used, number(plan.nodes));
-    let widened = put_field(out, noded, number(plan.width));
-    let at = put_field(out, widened, number(plan.height));
+    let noded = put_field(out, used, widened(plan.nodes));
+    let sized = put_field(out, noded, widened(plan.width));
+    let at = put_field(out, sized, widened(plan.height));
     put(out, at, b'\n')
 }
 
@@ -78,7 +78,7 @@ fn put_drawn(out: &mut [u8], used: usize, drawn: Drawn) -> usize
     ensures { λ r. ⌜ r ≤ length (now (out .entry)) ⌝ }
 {
     let named = put_all(out, used, b"draw");
-    let at = put_field(out, named, number(drawn.refusal));
+    let at = put_field(out, named, widened(drawn.refusal));
     put_plan(out, at, drawn.plan)
 }
 
@@ -100,7 +100,7 @@ fn put_wide(out: &mut [u8], used: usize, answer: Wide) -> usize
     let named = put_all(out, used, b"wide");
     match answer {
         Wide::Planned(plan) => put_plan(out, named, plan),
-        Wide::Refused(refusal) => put_line(out, named, b" refused", number(refusal)),
+        Wide::Refused(refusal) => put_line(out, named, b" refused", widened(refusal)),
     }
 }
 
@@ -119,7 +119,7 @@ fn run_check(table: &[u8], places: &[u16], out: &mut [u8], used: usize) -> usize
     requires { ⌜ used ≤ length (now out) ⌝ }
     ensures { λ r. ⌜ r ≤ length (now (out .entry)) ⌝ }
 {
-    put_line(out, used, b"check", number(verdict::check(table, places)))
+    put_line(out, used, b"check", widened(verdict::check(table, places)))
 }
 
 fn run_width(h: Head, out: &mut [u8], used: usize) -> usize
@@ -143,7 +143,7 @@ fn put_stroke(out: &mut [u8], used: usize, answer: Stroke) -> usize
         Stroke::Lift(point) => put_point(out, used, b"stroke lift", point),
         Stroke::Draw(point) => put_point(out, used, b"stroke draw", point),
         Stroke::Done => put_all(out, used, b"stroke done\n"),
-        Stroke::Refused(refusal) => put_line(out, used, b"stroke refused", number(refusal)),
+        Stroke::Refused(refusal) => put_line(out, used, b"stroke refused", widened(refusal)),
     }
 }
 
@@ -201,8 +201,8 @@ fn put_hung(out: &mut [u8], used: usize, name: &[u8], answer: Hung) -> usize
 {
     let named = put_all(out, used, name);
     match answer {
-        Hung::Leaf(record) => put_line(out, named, b"", number(record)),
-        Hung::Refused(refusal) => put_line(out, named, b" refused", number(refusal)),
+        Hung::Leaf(record) => put_line(out, named, b"", widened(record)),
+        Hung::Refused(refusal) => put_line(out, named, b" refused", widened(refusal)),
     }
 }
 
@@ -238,7 +238,7 @@ fn run_held(table: &mut [u8], out: &mut [u8], used: usize, h: Head) -> usize
     let side = (h.first % 256) as u8;
     let held = (next_number() % 65536) as u16;
     let answer = hanging::hang_held(table, h.count as u16, side, h.step as u16, held);
-    put_line(out, used, b"held", number(answer))
+    put_line(out, used, b"held", widened(answer))
 }
 
 fn run_cut(table: &mut [u8], out: &mut [u8], used: usize, node: u16) -> usize
@@ -246,7 +246,7 @@ fn run_cut(table: &mut [u8], out: &mut [u8], used: usize, node: u16) -> usize
     requires { ⌜ used ≤ length (now out) ⌝ }
     ensures { λ r. ⌜ r ≤ length (now (out .entry)) ⌝ }
 {
-    put_line(out, used, b"cut", number(hanging::cut(table, node)))
+    put_line(out, used, b"cut", widened(hanging::cut(table, node)))
 }
 
 // A call that writes to the table.

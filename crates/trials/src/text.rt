@@ -1,14 +1,9 @@
 // Text through one buffer, written out where it is full.
 use crate::input::word;
+use line::widened;
 use pen::points::PenPoint;
 ghost use Prim.Native.Nat.{_+_, _<_, _≤_};
 ghost use lib.ListN.{length};
-
-pub fn number(x: u16) -> u64
-    ensures { λ r. ⌜ r ≤ 65535 ⌝ }
-{
-    x as u64
-}
 
 // A place for one more byte.
 fn room(out: &[u8], used: usize) -> usize
@@ -97,7 +92,7 @@ fn put_numbers(out: &mut [u8], used: usize, numbers: &[u16]) -> usize
     let mut at = put_all(out, used, b"places");
     let mut i = 0;
     while i < numbers.len() {
-        at = put_field(out, at, number(numbers[i]));
+        at = put_field(out, at, widened(numbers[i]));
         i += 1;
     }
     put(out, at, b'\n')
@@ -107,7 +102,7 @@ fn mixed(sum: u64, x: u16) -> u64
     requires { ⌜ sum < 4294967291 ⌝ }
     ensures { λ r. ⌜ r < 4294967291 ⌝ }
 {
-    (65599 * sum + number(x) + 1) % 4294967291
+    (65599 * sum + widened(x) + 1) % 4294967291
 }
 
 fn sum_of(numbers: &[u16]) -> u64 {

@@ -26,7 +26,7 @@ module _ {t u : List ℕ} (h : OffChain t u) where
     rows : ChildAbove t p → ChildAbove u p
     rows z = record { k = z .k; c = z .c; s = z .s; line = still-line (z .line); above = z .above }
 
-    two-lines : {R : Point → Point → Point → Point → Type 0} → TwoLines t p R → TwoLines u p R
+    abbrev two-lines : {R : Point → Point → Point → Point → Type 0} → TwoLines t p R → TwoLines u p R
     two-lines z = record {
       k = z .k;
       c = z .c;
@@ -41,24 +41,7 @@ module _ {t u : List ℕ} (h : OffChain t u) where
     }
 
     meetings : LinesClash t p → LinesClash u p
-    meetings z = record {
-      k = z .k;
-      c = z .c;
-      m = z .m;
-      d = z .d;
-      s = z .s;
-      s′ = z .s′;
-      line = still-line (z .line);
-      line′ = still-line (z .line′);
-      different = z .different;
-      q = z .q;
-      x = z .x;
-      y = z .y;
-      q≥1 = z .q≥1;
-      on-line = z .on-line;
-      on-line′ = z .on-line′;
-      elsewhere = z .elsewhere;
-    }
+    meetings z = record { two = two-lines (z .two); elsewhere = z .elsewhere }
 
     overlaps : NodeOnLine t p → NodeOnLine u p
     overlaps z = record { b = z .b; k = z .k; c = z .c; s = z .s; chained = still-chained (z .b) (z .chained); line = still-line (z .line); no-end = z .no-end; lies = z .lies }

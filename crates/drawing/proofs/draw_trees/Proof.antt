@@ -3,7 +3,7 @@ use mathlib.Core.Path.{_≡_, refl, sym, ap, _∙_}
 use Prim.Native.Nat.{max}
 use native.Mathlib.Omega.{arith}
 use lib.ListN.{length, getD}
-use Rattle.drawing.proofs.Stacking.{Stacking, stack-start, stack-end, stack-few, stack-chained, stack-place, stack-record, stack-taken, stack-hanging, stack-step}
+use Rattle.drawing.proofs.Stacking.{Stacking, stack-start, stack-end, stack-few, stack-chained, stack-place, stack-record, stack-taken, stack-drawable, stack-step}
 use Rattle.drawing.proofs.draw_trees.Statement.{statement}
 use Rattle.drawing.proofs.draw_trees.Tie as tie
 
@@ -56,7 +56,7 @@ draw-tree-requires c κs =
         long-widest = measured .prepare .kept .1 .1 .1 .0 ∙ l .loop .inv .1 .0;
         enough = omega (arith, s .pre .1 .1 .1 .1 .1 .0, l .loop .inv .1 .1 .long);
       },
-      stack-hanging _ (s .pre .0) (s .pre .1 .0) (l .loop .inv .1 .1) (omega (arith, test .loop-test .taken)) _ (s .pre .1 .1 .1 .0) _ _ _ (omega arith) (measured .prepare .ensures .prepared),
+      stack-drawable _ (s .pre .0) (s .pre .1 .0) (l .loop .inv .1 .1) (omega (arith, test .loop-test .taken)) _ (s .pre .1 .1 .1 .0) _ _ _ (omega arith) (measured .prepare .ensures .prepared),
     )
 
 mul-unplaced : tie.Need-mul-unplaced Inv-loop μ-loop

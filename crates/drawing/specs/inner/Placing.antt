@@ -30,14 +30,14 @@ pub record Given (t sizes roles widest p : List ℕ) : Type 0 where
 
 -- The subtree at record k can be drawn on the side s, its edge c columns inwards from the edge e of a hand, from its top row on: it is measured, and its
 -- columns and rows are 16-bit numbers.
-pub record Hanging (t roles widest : List ℕ) (s : Side) (k e c top : ℕ) : Type 0 where
+pub record Drawable (t roles widest : List ℕ) (s : Side) (k e c top : ℕ) : Type 0 where
   pub named : Named t k
   pub prepared : Prepared roles widest s (treeAt t k)
   pub columns : Inside 65536 s e (c + widthOn s (treeAt t k))
   pub rows : top + heightOn s (treeAt t k) ≤ 65536
 
 -- It is drawn: the placements, and the first row below.
-pub record Hung (t : List ℕ) (s : Side) (k e top : ℕ) (p : List ℕ) (below : ℕ) (p′ : List ℕ) : Type 0 where
+pub record SubtreeDrawn (t : List ℕ) (s : Side) (k e top : ℕ) (p : List ℕ) (below : ℕ) (p′ : List ℕ) : Type 0 where
   pub ends : below ≡ top + heightOn s (treeAt t k)
   pub stored : p′ ≡ store (hungOn s e top (treeAt t k)) p
 

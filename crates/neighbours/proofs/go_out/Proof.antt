@@ -1,7 +1,5 @@
 -- `go_out`: the level is reached, and the lines that are neighbours now are side by side. Rests on Steps.
 use Rattle.neighbours.proofs.Steps.{out-places, abreast-out}
-use lib.Dec.{T}
-use mathlib.Core.Path.{sym, subst}
 use native.Mathlib.Omega.{arith}
 use borrow.Author.Needs.{needs}
 use Rattle.neighbours.proofs.go_out.Statement.{statement}

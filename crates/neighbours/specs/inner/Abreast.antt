@@ -36,7 +36,7 @@ pub record Starting (p e t : ℕ) (l a : List ℕ) : Type 0 where
 
 -- What the lines x and y share beside common ends is below the level t.
 pub record Clear (t x y : ℕ) : Type 0 where
-  pub clear : (c : Clashes x y) → 65536 * c .y + c .x < c .q * t
+  pub clear : (c : Clashes x y) → 65536 * c .share .y + c .share .x < c .share .q * t
 
 -- Of n lines those from i on came in, each at the level t or above; a has the places of m of them, each to the right of the next, and of all that start
 -- below t. If none of these starts above t, no two that came in clash at t or above.

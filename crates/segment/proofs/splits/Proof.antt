@@ -2,15 +2,16 @@
 use mathlib.Core.Path.{refl, _∙_}
 use mir.Syntax.{w64}
 use mir.ValLaws.{toZ-ofZ}
-use Rattle.segment.proofs.Answers.{and-skip, and-stop, splits-by}
+use lib.Signed.{ltZ}
+use Rattle.segment.proofs.Answers.{and-skip, and-stop, spans-by}
 use Rattle.segment.proofs.splits.Statement.{statement}
 use Rattle.segment.proofs.splits.Tie as tie
 
 returns : tie.Need-returns
-returns c = let s = c .before in and-skip (c .if1 .taken) (splits-by _ _ (toZ-ofZ w64 (s .args .d) (s .fits .d)) (toZ-ofZ w64 (s .args .e) (s .fits .e)))
+returns c = let s = c .before in and-skip (c .if1 .taken) (spans-by ltZ _ _ (toZ-ofZ w64 (s .args .d) (s .fits .d)) (toZ-ofZ w64 (s .args .e) (s .fits .e)))
 
 returns-2 : tie.Need-returns-2
-returns-2 c = let s = c .before in c .if1 .left ∙ and-stop _ (c .if1 .left) (splits-by _ _ (toZ-ofZ w64 (s .args .d) (s .fits .d)) refl)
+returns-2 c = let s = c .before in c .if1 .left ∙ and-stop _ (c .if1 .left) (spans-by ltZ _ _ (toZ-ofZ w64 (s .args .d) (s .fits .d)) refl)
 
 pub splits-spec : {M : Type 1} → statement M
 splits-spec = tie.close (tie.spec returns returns-2)

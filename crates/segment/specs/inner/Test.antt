@@ -3,7 +3,6 @@ use mathlib.Core.Bool.{Bool, _&&_, _||_}
 use Prim.Native.Nat.{ℕ, _+_, _*_, min, max}
 use lib.Dec.{leb}
 use lib.IntN.{ℤ, pos}
-use lib.Signed.{leZ, ltZ}
 use Rattle.segment.specs.declared.Point.{Point}
 use Rattle.segment.specs.Segment.{at, cross}
 
@@ -11,21 +10,13 @@ use Rattle.segment.specs.Segment.{at, cross}
 unfoldable pub overlap : ℕ → ℕ → ℕ → ℕ → Bool
 overlap a b x y = leb (min a b) (max x y) && leb (min x y) (max a b)
 
--- zero is from d to e
-unfoldable pub spans : ℤ → ℤ → Bool
-spans d e = leZ d (pos 0) && leZ (pos 0) e
+-- zero is from d to e (by leZ), or strictly between them (by ltZ)
+unfoldable pub spans : (ℤ → ℤ → Bool) → ℤ → ℤ → Bool
+spans by d e = by d (pos 0) && by (pos 0) e
 
--- X and Y are not both strictly on one side of the line through A and B
-unfoldable pub astride : Point → Point → Point → Point → Bool
-astride A B X Y = spans (cross A B X) (cross A B Y) || spans (cross A B Y) (cross A B X)
-
--- d is below zero, and e above
-unfoldable pub splits : ℤ → ℤ → Bool
-splits d e = ltZ d (pos 0) && ltZ (pos 0) e
-
--- X and Y are strictly on either side of the line through A and B
-unfoldable pub divides : Point → Point → Point → Point → Bool
-divides A B X Y = splits (cross A B X) (cross A B Y) || splits (cross A B Y) (cross A B X)
+-- X and Y are not both strictly on one side of the line through A and B (by leZ), or they are strictly on either side of it (by ltZ)
+unfoldable pub astride : (ℤ → ℤ → Bool) → Point → Point → Point → Point → Bool
+astride by A B X Y = spans by (cross A B X) (cross A B Y) || spans by (cross A B Y) (cross A B X)
 
 -- a point with column and row exchanged
 abbrev pub transpose : Point → Point

@@ -1,6 +1,5 @@
 -- `replace`: one more element, or all but one out and that written over. Rests on Moves.
 use Rattle.neighbours.proofs.Moves.{written-over, replaced-at}
-use mathlib.Core.Path.{refl}
 use native.Mathlib.Omega.{arith}
 use borrow.Author.Needs.{needs}
 use Rattle.neighbours.proofs.abreast.replace.Statement.{statement}

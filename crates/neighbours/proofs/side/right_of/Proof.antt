@@ -1,12 +1,12 @@
 -- `right_of`: the cross product is below zero. Rests on Moves.
 use Rattle.neighbours.proofs.Moves.{cross-at}
-use mathlib.Core.Path.{_≡_, sym, subst}
+use mathlib.Core.Path.{sym, subst}
 use lib.IntN.{pos}
 use lib.Signed.{ltZ}
 use mir.Syntax.{w64}
 use Rattle.segment.proofs.Range.{given}
 use lib.Dec.{T}
-use mathlib.Core.Path.{_≡_, sym, ap, subst, _∙_}
+use mathlib.Core.Path.{sym, subst}
 use borrow.Author.Needs.{needs}
 use Rattle.neighbours.proofs.side.right_of.Statement.{statement}
 use Rattle.neighbours.proofs.side.right_of.Tie as tie

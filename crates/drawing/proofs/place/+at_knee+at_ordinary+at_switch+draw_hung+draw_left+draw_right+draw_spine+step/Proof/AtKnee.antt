@@ -3,7 +3,7 @@ use mathlib.Core.Path.{ap, sym, _∙_}
 use Prim.Native.Nat.{ℕ, _+_}
 use borrow.Author.Needs.{needs}
 use native.Mathlib.Omega.{arith}
-use Rattle.drawing.proofs.Walking.{entry-within, given-kept, hanging-as, edge-knee, hanging-far, after-far, after-near}
+use Rattle.drawing.proofs.Walking.{entry-within, given-kept, drawable-as, edge-knee, drawable-far, after-far, after-near}
 use Rattle.drawing.proofs.place.at_knee.Reads as reads
 use Rattle.drawing.proofs.place.+at_knee+at_ordinary+at_switch+draw_hung+draw_left+draw_right+draw_spine+step.Lts-at_knee as lts
 use Rattle.drawing.proofs.place.+at_knee+at_ordinary+at_switch+draw_hung+draw_left+draw_right+draw_spine+step.Proof.Measures.{at-knee-claims, at-knee-at}
@@ -34,7 +34,7 @@ module _ (t : ℕ) where
         omega (arith, s .pre .0, s .pre .1 .1 .1 .sizes),
         (
           given-kept _ _ _ _ _ _ (point .set-point .kept .0) (s .pre .1 .0),
-          hanging-as _ _ _ _ _ _ _ _ _ (ap (λ (n : ℕ). n + 1) (most .most .ensures)) (hanging-far _ _ _ _ _ _ _ (s .pre .1 .1 .1) (sym (c .before .before .is-far .ensures) ∙ c .before .if1 .taken) (s .pre .1 .1 .0)),
+          drawable-as _ _ _ _ _ _ _ _ _ (ap (λ (n : ℕ). n + 1) (most .most .ensures)) (drawable-far _ _ _ _ _ _ _ (s .pre .1 .1 .1) (sym (c .before .before .is-far .ensures) ∙ c .before .if1 .taken) (s .pre .1 .1 .0)),
         ),
       )
 

@@ -2,7 +2,7 @@
 use Prim.Native.Nat.{ℕ}
 use borrow.Author.Needs.{needs}
 use native.Mathlib.Omega.{arith}
-use Rattle.drawing.proofs.Walking.{entry-within, given-kept, column-ordinary, rows-at-ordinary, hanging-ordinary, after-ordinary}
+use Rattle.drawing.proofs.Walking.{entry-within, given-kept, column-ordinary, rows-at-ordinary, drawable-ordinary, after-ordinary}
 use Rattle.drawing.proofs.place.at_ordinary.Reads as reads
 use Rattle.drawing.proofs.place.+at_knee+at_ordinary+at_switch+draw_hung+draw_left+draw_right+draw_spine+step.Lts-at_ordinary as lts
 use Rattle.drawing.proofs.place.+at_knee+at_ordinary+at_switch+draw_hung+draw_left+draw_right+draw_spine+step.Proof.Measures.{at-ordinary-claims, at-ordinary-at}
@@ -27,7 +27,7 @@ module _ (t : ℕ) where
   draw-hung-requires c κs =
       let point = c .before .before .before .before in
       let s = point .before .before .before .before .before .before .before .before in
-      (omega (arith, s .pre .0, s .pre .1 .1 .1 .sizes), (given-kept _ _ _ _ _ _ (point .set-point .kept .0) (s .pre .1 .0), hanging-ordinary _ _ _ _ _ _ _ (s .pre .1 .1 .1) (s .pre .1 .1 .0)))
+      (omega (arith, s .pre .0, s .pre .1 .1 .1 .sizes), (given-kept _ _ _ _ _ _ (point .set-point .kept .0) (s .pre .1 .0), drawable-ordinary _ _ _ _ _ _ _ (s .pre .1 .1 .1) (s .pre .1 .1 .0)))
 
   sub-lowest : lts.Need-sub-lowest (at-ordinary-claims t) (at-ordinary-at t) reads.Post
   sub-lowest c = omega (arith, c .before .before .draw-hung .ensures .ends)

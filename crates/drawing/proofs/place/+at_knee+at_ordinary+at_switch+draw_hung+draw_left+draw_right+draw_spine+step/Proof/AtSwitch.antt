@@ -4,7 +4,7 @@ use Prim.Native.Nat.{ℕ, _+_}
 use borrow.Author.Needs.{needs}
 use native.Mathlib.Omega.{arith}
 use Rattle.roles.proofs.Forks.{named-within}
-use Rattle.drawing.proofs.Walking.{entry-within, given-kept, hanging-as, column-switch, widest-at-switch, rows-at-switch, hanging-switch, hanging-pending, next-role, next-below, after-switch}
+use Rattle.drawing.proofs.Walking.{entry-within, given-kept, drawable-as, column-switch, widest-at-switch, rows-at-switch, drawable-switch, drawable-pending, next-role, next-below, after-switch}
 use Rattle.drawing.proofs.place.at_switch.Reads as reads
 use Rattle.drawing.proofs.place.+at_knee+at_ordinary+at_switch+draw_hung+draw_left+draw_right+draw_spine+step.Lts-at_switch as lts
 use Rattle.drawing.proofs.place.+at_knee+at_ordinary+at_switch+draw_hung+draw_left+draw_right+draw_spine+step.Proof.Measures.{at-switch-claims, at-switch-at}
@@ -29,7 +29,7 @@ module _ (t : ℕ) where
   draw-hung-requires c κs =
       let point = c .before .before .before .before in
       let s = point .before .before .before .before .before .before .before .before in
-      (omega (arith, s .pre .0, s .pre .1 .1 .1 .sizes), (given-kept _ _ _ _ _ _ (point .set-point .kept .0) (s .pre .1 .0), hanging-switch _ _ _ _ _ _ _ (s .pre .1 .1 .1) (s .pre .1 .1 .0)))
+      (omega (arith, s .pre .0, s .pre .1 .1 .1 .sizes), (given-kept _ _ _ _ _ _ (point .set-point .kept .0) (s .pre .1 .0), drawable-switch _ _ _ _ _ _ _ (s .pre .1 .1 .1) (s .pre .1 .1 .0)))
 
   draw-hung-requires-2 : lts.Need-draw-hung-requires-2 (at-switch-claims t) (at-switch-at t) reads.Post
   draw-hung-requires-2 c κs =
@@ -39,7 +39,7 @@ module _ (t : ℕ) where
         omega (arith, s .pre .0, s .pre .1 .1 .1 .sizes),
         (
           given-kept _ _ _ _ _ _ (hung .draw-hung .kept .1 .1 .1 .1 .0 ∙ point .set-point .kept .0) (s .pre .1 .0),
-          hanging-as _ _ _ _ _ _ _ _ _ (hung .draw-hung .ensures .ends) (hanging-pending _ _ _ _ _ _ _ (s .pre .1 .1 .1) (s .pre .1 .1 .0)),
+          drawable-as _ _ _ _ _ _ _ _ _ (hung .draw-hung .ensures .ends) (drawable-pending _ _ _ _ _ _ _ (s .pre .1 .1 .1) (s .pre .1 .1 .0)),
         ),
       )
 

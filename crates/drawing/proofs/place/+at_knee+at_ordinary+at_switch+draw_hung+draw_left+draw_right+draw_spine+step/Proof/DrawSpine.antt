@@ -6,7 +6,7 @@ use native.Mathlib.Nat.{pos-of-ne-zero}
 use Rattle.table.specs.Tree.{size, treeAt}
 use Rattle.roles.proofs.Forks.{named-within}
 use Rattle.drawing.proofs.Walking.{size-none, given-kept}
-use Rattle.drawing.proofs.Starting.{root-below, going-start, hung-start, hanging-end, SoFar, walked-start, walked-on, walked-end}
+use Rattle.drawing.proofs.Starting.{root-below, going-start, drawn-start, drawable-end, SoFar, walked-start, walked-on, walked-end}
 use Rattle.drawing.proofs.place.draw_spine.Reads as reads
 use Rattle.drawing.proofs.place.+at_knee+at_ordinary+at_switch+draw_hung+draw_left+draw_right+draw_spine+step.Lts-draw_spine as lts
 use Rattle.drawing.proofs.place.+at_knee+at_ordinary+at_switch+draw_hung+draw_left+draw_right+draw_spine+step.Proof.Measures.{draw-spine-claims, draw-spine-at}
@@ -63,14 +63,14 @@ module _ (t : ℕ) where
   add-row : lts.Need-add-row (draw-spine-claims t) (draw-spine-at t) reads.Post Inv-loop μ-loop
   add-row c =
       let head = c .before .before .before in
-      omega (arith, hanging-end _ _ _ _ (c .before .if1 .left) _ (head .loop .inv .going) .rows)
+      omega (arith, drawable-end _ _ _ _ (c .before .if1 .left) _ (head .loop .inv .going) .rows)
 
   draw-hung-requires : lts.Need-draw-hung-requires (draw-spine-claims t) (draw-spine-at t) reads.Post Inv-loop μ-loop
   draw-hung-requires c κs =
       let head = c .before .before .before .before in
       let s = head .before .before .before .before .before .before .before .before in
       let l = head .loop .inv in
-      (omega (arith, s .pre .0, l .one-less, size-none (s .args .table .now)), (given-kept _ _ _ _ _ _ (l .kept) (s .pre .1 .0), hanging-end _ _ _ _ (c .before .before .if1 .left) _ (l .going)))
+      (omega (arith, s .pre .0, l .one-less, size-none (s .args .table .now)), (given-kept _ _ _ _ _ _ (l .kept) (s .pre .1 .0), drawable-end _ _ _ _ (c .before .before .if1 .left) _ (l .going)))
 
   same-length : lts.Need-same-length (draw-spine-claims t) (draw-spine-at t) reads.Post Inv-loop μ-loop
   same-length c =
@@ -82,7 +82,7 @@ module _ (t : ℕ) where
       let test1 = c .before .before .before .before .before in
       let head = test1 .before .before in
       let s = head .before .before .before .before .before .before .before .before in
-      hung-start _ _ _ (s .pre .1 .0 .sound) (s .args .mirrored) _ _ _ (s .pre .1 .1 .0) (s .pre .1 .1 .1) (head .before .before .is-right-at .result) (head .before .before .is-right-at .ensures) _ _ _
+      drawn-start _ _ _ (s .pre .1 .0 .sound) (s .args .mirrored) _ _ _ (s .pre .1 .1 .0) (s .pre .1 .1 .1) (head .before .before .is-right-at .result) (head .before .before .is-right-at .ensures) _ _ _
       (walked-end _ _ _ _ _ _ _ _ _ (head .loop .inv) (test1 .if1 .left) (c .before .before .draw-hung .ensures))
 
 pub draw-spine-closed : {M : Type 1} (t : ℕ) → lts.Closed (draw-spine-claims t) (draw-spine-at t) reads.Post M
