@@ -1,13 +1,26 @@
-// What a case brings: its head, the bytes of a table or a name, the numbers of placements, the number of a stroke.
+// What a case brings: its head, the bytes of a table or a name, the numbers of placements, the number of a stroke. A word is read at a time.
 ghost use mathlib.Core.Path.{_≡_};
-ghost use Prim.Native.Nat.{_+_, _*_, _<_, _≤_};
+ghost use Prim.Native.Nat.{_+_, _<_, _≤_};
 ghost use lib.ListN.{length};
 
 pub struct Head {
-    pub kind: usize,
-    pub count: usize,
-    pub first: usize,
-    pub step: usize,
+    pub kind: u16,
+    pub count: u16,
+    pub first: u16,
+    pub step: u16,
+}
+
+// A word, as the numbers that indices are.
+pub fn size(x: u16) -> usize
+    ensures { λ r. ⌜ r ≤ 65535 ⌝ }
+{
+    x as usize
+}
+
+pub fn number(x: u16) -> u64
+    ensures { λ r. ⌜ r ≤ 65535 ⌝ }
+{
+    x as u64
 }
 
 fn byte(x: u8) -> usize
@@ -17,52 +30,35 @@ fn byte(x: u8) -> usize
 }
 
 // The word that begins at a byte.
-pub fn word(bytes: &[u8], at: usize) -> usize
+pub fn word(bytes: &[u8], at: usize) -> u16
     requires { ⌜ at + 1 < length (now bytes) ⌝ }
-    ensures { λ r. ⌜ r ≤ 65535 ⌝ }
 {
-    byte(bytes[at]) + 256 * byte(bytes[at + 1])
+    (byte(bytes[at]) + 256 * byte(bytes[at + 1])) as u16
 }
 
-fn head_of(bytes: &[u8]) -> Head
-    requires { ⌜ 7 < length (now bytes) ⌝ }
-    ensures { λ r. ⌜ r .count ≤ 65535 ⌝ }
-    ensures { λ r. ⌜ r .first ≤ 65535 ⌝ }
-    ensures { λ r. ⌜ r .step ≤ 65535 ⌝ }
-{
-    Head {
-        kind: word(bytes, 0),
-        count: word(bytes, 2),
-        first: word(bytes, 4),
-        step: word(bytes, 6),
-    }
+// The next word; 0 where the input has ended.
+fn next_word() -> u16 {
+    let mut bytes = [0u8; 2];
+    io::read_full(0, &mut bytes);
+    word(&bytes, 0)
 }
 
 // The next head; kind 0 where the input has ended.
-pub fn next_head() -> Head
-    ensures { λ r. ⌜ r .count ≤ 65535 ⌝ }
-    ensures { λ r. ⌜ r .first ≤ 65535 ⌝ }
-    ensures { λ r. ⌜ r .step ≤ 65535 ⌝ }
-{
-    let mut bytes = [0u8; 8];
-    io::read_full(0, &mut bytes);
-    head_of(&bytes)
-}
-
-fn number_of(bytes: &[u8]) -> u64
-    requires { ⌜ 7 < length (now bytes) ⌝ }
-{
-    word(bytes, 0) as u64
-        + 0x1_0000 * (word(bytes, 2) as u64)
-        + 0x1_0000_0000 * (word(bytes, 4) as u64)
-        + 0x1_0000_0000_0000 * (word(bytes, 6) as u64)
+pub fn next_head() -> Head {
+    Head {
+        kind: next_word(),
+        count: next_word(),
+        first: next_word(),
+        step: next_word(),
+    }
 }
 
 // The next number of 64 bits, in four words.
 pub fn next_number() -> u64 {
-    let mut bytes = [0u8; 8];
-    io::read_full(0, &mut bytes);
-    number_of(&bytes)
+    number(next_word())
+        + 0x1_0000 * number(next_word())
+        + 0x1_0000_0000 * number(next_word())
+        + 0x1_0000_0000_0000 * number(next_word())
 }
 
 // The next bytes: how many they are.
@@ -74,83 +70,55 @@ pub fn next_bytes(bytes: &mut [u8], count: usize) -> usize
     count
 }
 
-// Reads count words by way of bytes.
-fn read_words(bytes: &mut [u8], places: &mut [u16], count: usize)
-    requires { ⌜ 2 * count ≤ length (now bytes) ⌝ }
+fn read_words(places: &mut [u16], count: usize)
     requires { ⌜ count ≤ length (now places) ⌝ }
 {
-    let n = 2 * count;
-    io::read_full(0, &mut bytes[..n]);
     let mut i = 0;
     while i < count {
-        places[i] = word(bytes, 2 * i) as u16;
+        places[i] = next_word();
         i += 1;
     }
 }
 
-fn read_pairs(bytes: &mut [u8], places: &mut [u16], count: usize)
-    requires { ⌜ 4 * count ≤ length (now bytes) ⌝ }
+fn read_pairs(places: &mut [u16], count: usize)
     requires { ⌜ 65536 ≤ length (now places) ⌝ }
 {
-    let n = 4 * count;
-    io::read_full(0, &mut bytes[..n]);
     let mut i = 0;
     while i < count {
-        let at = word(bytes, 4 * i);
-        places[at] = word(bytes, 4 * i + 2) as u16;
+        let at = size(next_word());
+        places[at] = next_word();
         i += 1;
     }
 }
 
-fn listed(places: &mut [u16], count: usize) -> usize
-    requires { ⌜ count ≤ 65535 ⌝ }
+fn fill(places: &mut [u16], count: usize, first: u16, step: usize)
     requires { ⌜ count ≤ length (now places) ⌝ }
-    ensures { λ r. ⌜ r ≤ length (now (places .entry)) ⌝ }
-{
-    let mut bytes = [0u8; 131072];
-    read_words(&mut bytes, places, count);
-    count
-}
-
-fn changed(places: &mut [u16], count: usize)
-    requires { ⌜ count ≤ 65535 ⌝ }
-    requires { ⌜ 65536 ≤ length (now places) ⌝ }
-{
-    let mut bytes = [0u8; 262144];
-    read_pairs(&mut bytes, places, count);
-}
-
-fn filled(places: &mut [u16], count: usize, first: usize, step: usize) -> usize
-    requires { ⌜ count ≤ length (now places) ⌝ }
-    requires { ⌜ first ≤ 65535 ⌝ }
     requires { ⌜ step ≤ 65535 ⌝ }
-    ensures { λ r. ⌜ r ≤ length (now (places .entry)) ⌝ }
 {
-    let mut number = first;
+    let mut number = size(first);
     let mut i = 0;
     while i < count {
         places[i] = number as u16;
         number = (number + step) % 65536;
         i += 1;
     }
-    count
 }
 
 // A case that gives the placements: how many there are.
 pub fn give(places: &mut [u16], before: usize, h: Head) -> usize
     requires { ⌜ 65536 ≤ length (now places) ⌝ }
-    requires { ⌜ before ≤ length (now places) ⌝ }
-    requires { ⌜ h .count ≤ 65535 ⌝ }
-    requires { ⌜ h .first ≤ 65535 ⌝ }
-    requires { ⌜ h .step ≤ 65535 ⌝ }
-    ensures { λ r. ⌜ r ≤ length (now (places .entry)) ⌝ }
+    requires { ⌜ before ≤ 65536 ⌝ }
+    ensures { λ r. ⌜ r ≤ 65536 ⌝ }
 {
+    let count = size(h.count);
     if h.kind == 2 {
-        return listed(places, h.count);
+        read_words(places, count);
+        return count;
     }
     if h.kind == 3 {
-        return filled(places, h.count, h.first, h.step);
+        fill(places, count, h.first, size(h.step));
+        return count;
     }
-    changed(places, h.count);
+    read_pairs(places, count);
     before
 }

@@ -1,7 +1,7 @@
 -- `answer` is safe: the table and the placements in use lie within their buffers.
-use borrow.Author.Needs.{needs}
-use native.Mathlib.Omega.{arith}
 use lib.ListN.{length-take}
+use native.Mathlib.Omega.{arith}
+use borrow.Author.Needs.{needs}
 use Rattle.trials.proofs.answer.Statement.{statement}
 use Rattle.trials.proofs.answer.Tie as tie
 
@@ -10,9 +10,6 @@ change-requires c κs = search needs
 
 same-length : tie.Need-same-length
 same-length c = search needs
-
-same-length-2 : tie.Need-same-length-2
-same-length-2 c = search needs
 
 returns : tie.Need-returns
 returns c = search needs
@@ -32,14 +29,11 @@ slice-aggregate-ask-2 c = simp length-take (omega arith)
 ask-requires : tie.Need-ask-requires
 ask-requires c κs = search needs
 
+same-length-2 : tie.Need-same-length-2
+same-length-2 c = search needs
+
 same-length-3 : tie.Need-same-length-3
 same-length-3 c = search needs
-
-same-length-4 : tie.Need-same-length-4
-same-length-4 c = search needs
-
-same-length-5 : tie.Need-same-length-5
-same-length-5 c = search needs
 
 returns-2 : tie.Need-returns-2
 returns-2 c = search needs
@@ -50,14 +44,12 @@ answer-spec =
     (tie.spec
     change-requires
     same-length
-    same-length-2
     returns
     slice-reshare-prefix-ask
     slice-aggregate-ask
     slice-relend-prefix-ask
     slice-aggregate-ask-2
     ask-requires
+    same-length-2
     same-length-3
-    same-length-4
-    same-length-5
     returns-2)

@@ -1,21 +1,18 @@
 -- `change` is safe: the table in use lies within its buffer.
-use native.Mathlib.Omega.{arith}
 use lib.ListN.{length-take}
+use native.Mathlib.Omega.{arith}
 use borrow.Author.Needs.{needs}
 use Rattle.trials.proofs.change.Statement.{statement}
 use Rattle.trials.proofs.change.Tie as tie
 
-slice-reshare-prefix-copy : tie.Need-slice-reshare-prefix-copy
-slice-reshare-prefix-copy c = search needs
+large-buffer-requires : tie.Need-large-buffer-requires
+large-buffer-requires c κs = search needs
 
 slice-aggregate-copy : tie.Need-slice-aggregate-copy
-slice-aggregate-copy c = simp length-take (omega arith)
-
-slice-aggregate-copy-2 : tie.Need-slice-aggregate-copy-2
-slice-aggregate-copy-2 c = search needs
+slice-aggregate-copy c = search needs
 
 copy-requires : tie.Need-copy-requires
-copy-requires c κs = simp length-take (omega arith)
+copy-requires c κs = search needs
 
 slice-relend-prefix-write : tie.Need-slice-relend-prefix-write
 slice-relend-prefix-write c = search needs
@@ -35,9 +32,6 @@ put-changed-requires c κs = search needs
 same-length : tie.Need-same-length
 same-length c = search needs
 
-same-length-2 : tie.Need-same-length-2
-same-length-2 c = search needs
-
 returns : tie.Need-returns
 returns c = search needs
 
@@ -45,9 +39,8 @@ pub change-spec : {M : Type 1} → statement M
 change-spec =
     tie.close
     (tie.spec
-    slice-reshare-prefix-copy
+    large-buffer-requires
     slice-aggregate-copy
-    slice-aggregate-copy-2
     copy-requires
     slice-relend-prefix-write
     slice-aggregate-write
@@ -55,5 +48,4 @@ change-spec =
     slice-aggregate-put-changed
     put-changed-requires
     same-length
-    same-length-2
     returns)

@@ -1,7 +1,7 @@
 -- `run_name` is safe: the part that is printed has the length that was read.
-use borrow.Author.Needs.{needs}
-use native.Mathlib.Omega.{arith}
 use lib.ListN.{length-take}
+use native.Mathlib.Omega.{arith}
+use borrow.Author.Needs.{needs}
 use Rattle.trials.proofs.run_name.Statement.{statement}
 use Rattle.trials.proofs.run_name.Tie as tie
 
@@ -14,17 +14,17 @@ next-bytes-requires c κs = search needs
 array-share-prefix-name : tie.Need-array-share-prefix-name
 array-share-prefix-name c = search needs
 
-slice-aggregate-put-all : tie.Need-slice-aggregate-put-all
-slice-aggregate-put-all c = simp length-take (omega arith)
-
-put-all-requires : tie.Need-put-all-requires
-put-all-requires c κs = search needs
+slice-aggregate-put : tie.Need-slice-aggregate-put
+slice-aggregate-put c = simp length-take (omega arith)
 
 put-requires : tie.Need-put-requires
 put-requires c κs = search needs
 
-same-length : tie.Need-same-length
-same-length c = search needs
+slice-aggregate-put-2 : tie.Need-slice-aggregate-put-2
+slice-aggregate-put-2 c = search needs
+
+put-requires-2 : tie.Need-put-requires-2
+put-requires-2 c κs = search needs
 
 returns : tie.Need-returns
 returns c = search needs
@@ -36,8 +36,8 @@ run-name-spec =
     slice-aggregate-next-bytes
     next-bytes-requires
     array-share-prefix-name
-    slice-aggregate-put-all
-    put-all-requires
+    slice-aggregate-put
     put-requires
-    same-length
+    slice-aggregate-put-2
+    put-requires-2
     returns)

