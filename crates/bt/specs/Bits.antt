@@ -32,7 +32,7 @@ meetingNumber SharedEnd = 1
 meetingNumber Crossing = 2
 meetingNumber Touching = 3
 
--- n is the number of the kind in which the lines from P to Q and from R to S meet; there is one (`some-kind`, `one-kind` in segment/proofs/FourKinds).
+-- n is the number of the kind in which the lines from P to Q and from R to S meet; there is one (`SomeMeeting`, `OneMeeting`, promises).
 pub record Compared (P Q R S : Point) (n : ℕ) : Type 0 where
   pub kind : Meeting
   pub so : MeetSo kind P Q R S

@@ -9,7 +9,7 @@ unfoldable pub digits : ℕ → ℕ → List ℕ
 digits zero n = []
 digits (suc m) n = elim (ltb n 10) [ true ↦ (48 + n) ∷ [] | false ↦ digits m (n / 10) ++ ((48 + n % 10) ∷ []) ]
 
--- A number n has no more than n + 1 digits: none is cut off (`decimal-more`, proofs/Decimal).
+-- A number n has no more than n + 1 digits: none is cut off (`DigitsWhole`, promises).
 unfoldable pub decimal : ℕ → List ℕ
 decimal n = digits (suc n) n
 

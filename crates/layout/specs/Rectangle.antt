@@ -15,7 +15,7 @@ pub data Hangs (k : ℕ) (U : Tree) : List Assigned → Type 0 where
   further : {l : Assigned} {ls : List Assigned} → Hangs k U ls → Hangs k U (l ∷ ls)
 
 -- "every spine": in the drawing of a, S is drawn along a spine of its own. It is a, or hangs from the spine of such a tree and is "drawn by these same steps"; on a right hand S is the
--- mirror image, so that its spine is that of the "tree being drawn". Each node of a is on one of these spines (`on-a-spine`, proofs/OnSpine).
+-- mirror image, so that its spine is that of the "tree being drawn". Each node of a is on one of these spines (`EveryNodeOnASpine`, promises).
 pub data DrawnIn (a : Tree) : Tree → Type 0 where
   whole : DrawnIn a a
   hung : {S U : Tree} {k : ℕ} → DrawnIn a S → Hangs k U (roles (spine S)) → DrawnIn a U
