@@ -62,7 +62,7 @@ unfoldable pub steps : (Tree → Layout) → Tree → Layout
 steps d t = let ps : List Part = map (hang d) (roles (spine t)) in place (widest ps) 0 0 0 ps .drawn
 
 -- Step 3: "drawn by these same steps"; n bounds the size of the tree, which falls from a tree to its hung subtrees. The bound is never felt: `draw t` is
--- `steps draw t`, for every tree (`draw-law`, proofs/Whole).
+-- `steps draw t`, for every tree (`DrawnBySteps`, promises).
 unfoldable pub drawing : ℕ → Tree → Layout
 drawing zero t = blank
 drawing (suc n) t = steps (drawing n) t

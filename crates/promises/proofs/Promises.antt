@@ -2,6 +2,7 @@
 use Rattle.segment.proofs.FourKinds.{one-kind, some-kind}
 use Rattle.table.proofs.Accepted.{chain-ended, free-ended, tree-unfolds, nodes-chain, nodes-distinct}
 use Rattle.width.proofs.FloorLog2.{floor-bounds, floor-unique, allowed-4096, allowed-most}
+use Rattle.layout.proofs.Whole.{draw-law}
 use Rattle.layout.proofs.Stacked.{rooted-below}
 use Rattle.layout.proofs.OnSpine.{on-a-spine}
 use Rattle.drawing.proofs.Elsewhere.{kept-elsewhere}
@@ -31,7 +32,7 @@ use Rattle.fields.proofs.Decimal.{decimal-one, decimal-more}
 use Rattle.text.proofs.Whole.{enough}
 use Rattle.text.proofs.OffChain.{off-chain-text}
 use Rattle.starred.proofs.Starred.{starred}
-use Rattle.promises.specs.Promises.{ChainsWhole, TreesWhole, TreesOfTheChain, OneFloor, DigitsWhole, PlainKeepsOthers, WideKeepsOthers, NeverTaken}
+use Rattle.promises.specs.Promises.{ChainsWhole, TreesWhole, TreesOfTheChain, DrawnBySteps, OneFloor, DigitsWhole, PlainKeepsOthers, WideKeepsOthers, NeverTaken}
 use Rattle.promises.specs.Promises.{OffChainPlain, OffChainWide, OffChainVerdict, OffChainStroke, OffChainHang, OffChainHeld, OffChainCut, OffChainText}
 use Rattle.promises.specs.Promises.{OffChainAfter, NeverSix, OneVerdict, StarredSheets, AcceptedIsGood, AtMost37, WideIsGood, LinesPlottedOnce, StrokesNumbered}
 use Rattle.promises.specs.Promises.{OneQuarter, HangsALeaf, CutsALeaf, CutsTheLast, CutRestores, CallsConserve, AcceptedFirst, RefusedFirst}
@@ -46,6 +47,9 @@ trees-whole = tree-unfolds
 
 pub trees-of-the-chain : TreesOfTheChain
 trees-of-the-chain = λ t ok. (nodes-chain t ok, nodes-distinct t ok)
+
+pub drawn-by-steps : DrawnBySteps
+drawn-by-steps = draw-law
 
 pub one-floor : OneFloor
 one-floor = λ n k some. (floor-unique some, λ e. rw e (floor-bounds n some))

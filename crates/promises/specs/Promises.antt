@@ -22,7 +22,7 @@ use Rattle.table.specs.OffChain.{OnNeither, OffChain}
 use Rattle.table.specs.Writing.{Bytes}
 use Rattle.width.specs.Allowed.{IsFloor, floorLog2, allowedWidth}
 use Rattle.layout.specs.Layout.{RootAt, shift}
-use Rattle.layout.specs.Drawing.{draw}
+use Rattle.layout.specs.Drawing.{steps, draw}
 use Rattle.layout.specs.Rectangle.{OnSpine}
 use Rattle.drawing.specs.Answer.{drawnOf, placedIn, KeptElsewhere}
 use Rattle.wide.specs.Wide.{wideOf, widePlacedIn}
@@ -59,6 +59,10 @@ TreesWhole = (t : List ℕ) → fault t ≡ 0 → (k : ℕ) → Chained t k → 
 
 abbrev pub TreesOfTheChain : Type 0
 TreesOfTheChain = (t : List ℕ) → fault t ≡ 0 → ((k : ℕ) → T (member k (nodesOf (trees t))) ↔ Chained t k) × (repeats (nodesOf (trees t)) ≡ false)
+
+-- The drawing of a tree is made by the steps, of which drawing what hangs is one.
+abbrev pub DrawnBySteps : Type 0
+DrawnBySteps = (a : Tree) → draw a ≡ steps draw a
 
 -- The allowed width: floorLog2 n is floor(log2 n), and no other number is.
 abbrev pub OneFloor : Type 0
