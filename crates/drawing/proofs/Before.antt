@@ -1,5 +1,6 @@
--- "Tables taken before get the plan they had": of a table with one root the drawer's answer is that of one tree (`one-drawn`), and so of every table that was accepted before document 02, Paper 8 (`drawn-before`), or
--- before Paper 5 (`drawn-first`). Rests on that law of tables, on Answered and on the laws of a single tree (`layout`).
+-- "Tables taken before get the plan they had": of a table with one root the drawer's answer is that of one tree (`one-drawn`), and so of every table that was
+-- accepted before document 02, Paper 8 (`drawn-before`), or before Paper 5 (`drawn-first`). Rests on that law of tables, on Answered and on the laws of a
+-- single tree (`layout`).
 use mathlib.Core.Path.{_≡_, ap, ap₂, sym, _∙_}
 use mathlib.Core.List.{List, [], _∷_, map}
 use Prim.Native.Nat.{ℕ}

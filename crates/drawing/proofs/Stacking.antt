@@ -1,4 +1,5 @@
--- The trees of a table drawn one after the other, from the first root to the last: what is left of them gives what all of them give. Rests on the laws of accepted tables and of the drawing of several trees.
+-- The trees of a table drawn one after the other, from the first root to the last: what is left of them gives what all of them give. Rests on the laws of
+-- accepted tables and of the drawing of several trees.
 use mathlib.Core.Path.{_≡_, refl, ap, sym, _∙_}
 use mathlib.Core.Logic.{inr}
 use mathlib.Core.List.{List, [], _∷_, map}

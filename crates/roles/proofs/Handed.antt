@@ -16,7 +16,8 @@ unfolding rolesFrom rolesAfter roleNext
 from-next a o [] = refl
 from-next a o (l ∷ ls) = refl
 
-handed-node : {R : List ℕ} (a s : Side) (o : Role) (k : ℕ) (S : Tree) (rs : List Assigned) → getD R k 0 ≡ codeOf a o → Handed R a (facing a S) → HandedAlong R (handAfter o a) rs → HandedAlong R a (assigned o (seen a (hangs k s S)) ∷ rs)
+handed-node : {R : List ℕ} (a s : Side) (o : Role) (k : ℕ) (S : Tree) (rs : List Assigned) → getD R k 0 ≡ codeOf a o → Handed R a (facing a S) →
+    HandedAlong R (handAfter o a) rs → HandedAlong R a (assigned o (seen a (hangs k s S)) ∷ rs)
 unfolding seen facing
 handed-node left s o k S rs c h l = one-more c h l
 handed-node right s o k S rs c h l = one-more c h l

@@ -35,4 +35,5 @@ mutual
   -- The same from a spine node of the hand a on.
   pub data HandedAlong (R : List ℕ) : Side → List Assigned → Type 0 where
     no-more : {a : Side} → HandedAlong R a []
-    one-more : {a s : Side} {o : Role} {k : ℕ} {S : Tree} {rs : List Assigned} → getD R k 0 ≡ codeOf a o → Handed R a S → HandedAlong R (handAfter o a) rs → HandedAlong R a (assigned o (hangs k s S) ∷ rs)
+    one-more : {a s : Side} {o : Role} {k : ℕ} {S : Tree} {rs : List Assigned} → getD R k 0 ≡ codeOf a o → Handed R a S → HandedAlong R (handAfter o a) rs →
+        HandedAlong R a (assigned o (hangs k s S) ∷ rs)
