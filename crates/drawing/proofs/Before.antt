@@ -27,7 +27,8 @@ module _ (t : List ℕ) (one : roots t ≡ rootOf t ∷ []) where
   one-plan : planOf t ≡ planBefore t
   unfolding planOf planBefore
   one-plan =
-      ap₂ (λ (w h : ℕ). record { nodes = length (chain t); width = w; height = h }) (ap widthOf one-layout ∙ sym (widthOf-one (draw (tree t)))) (ap heightOf one-layout ∙ sym (heightOf-one (draw (tree t))))
+      ap₂ (λ (w h : ℕ). record { nodes = length (chain t); width = w; height = h })
+      (ap widthOf one-layout ∙ sym (widthOf-one (draw (tree t)))) (ap heightOf one-layout ∙ sym (heightOf-one (draw (tree t))))
 
   pub one-drawn : (p : List ℕ) → refusal t (length p) ≡ 0 → AsBefore t p
   unfolding storeAll
