@@ -1,8 +1,8 @@
 -- The laws of the verdict, and the proofs of the functions. None is assumed.
 pub mod Unique
-pub mod OffChain
 pub mod Ends
 pub mod Clashes
+pub mod OffChain
 pub mod Decide
 pub mod Before
 pub mod Parent
