@@ -225,7 +225,7 @@ spine-cast-widest : (t : ℕ) → spine-lts.Need-cast-widest (spine-calls t) (sp
 spine-cast-widest t c =
     let l = c .before .before .before in
     let p = begun t l .pre .1 in
-    omega (arith, widest-small _ (p .0) _ _ (p .1 .0) (l .loop .inv .surveying))
+    omega (arith, widest-small _ (p .0) _ _ (l .loop .inv .surveying) (p .1 .0))
 
 spine-mul-widest : (t : ℕ) → spine-lts.Need-mul-widest (spine-calls t) (spine-at t) spine.Post Inv-loop μ-loop
 spine-mul-widest t c =
@@ -242,7 +242,7 @@ spine-width-of-requires : (t : ℕ) → spine-lts.Need-width-of-requires (spine-
 spine-width-of-requires t c κs =
     let l = c .before .before .before in
     let p = begun t l .pre .1 in
-    omega (arith, widest-small _ (p .0) _ _ (p .1 .0) (l .loop .inv .surveying))
+    omega (arith, widest-small _ (p .0) _ _ (l .loop .inv .surveying) (p .1 .0))
 
 spine-same-length : (t : ℕ) → spine-lts.Need-same-length (spine-calls t) (spine-at t) spine.Post Inv-loop μ-loop
 spine-same-length t c =
@@ -258,7 +258,7 @@ spine-returns : (t : ℕ) → spine-lts.Need-returns (spine-calls t) (spine-at t
 spine-returns t c =
     let l = c .before .before .before .before in
     let p = begun t l .pre .1 in
-    measured _ (p .0) _ _ (p .1 .0) (l .loop .inv .surveying) _ (l .before .before .before .choose-roles .ensures) (l .loop .inv .long-widest) (c .before .before .if1 .left) _ (c .width-of .ensures)
+    measured _ (p .0) _ _ (l .loop .inv .surveying) (p .1 .0) _ (l .before .before .before .choose-roles .ensures) (l .loop .inv .long-widest) (c .before .before .if1 .left) _ (c .width-of .ensures)
 
 pub +measure-hung+measure-left+measure-right+measure-spine-spec : {M : Type 1} → statement M
 +measure-hung+measure-left+measure-right+measure-spine-spec =
