@@ -78,7 +78,8 @@ module _ {t u : List ℕ} {c p j f : ℕ} (a : Growth t u c p j f) where
     where
       old : Chained t k → (linkOf u s k ≡ 0) ⊎ Chained u (linkOf u s k)
       old h =
-          ⊎-elim (λ (e : linkOf u s k ≡ linkOf t s k). rw e (⊎-elim (λ (z : linkOf t s k ≡ 0). inl z) (λ (n : Chained t (linkOf t s k)). inr (still-chained (linkOf t s k) n)) (links-chained t ok k s h)))
+          ⊎-elim
+          (λ (e : linkOf u s k ≡ linkOf t s k). rw e (⊎-map (λ (z : linkOf t s k ≡ 0). z) (still-chained (linkOf t s k)) (links-chained t ok k s h)))
           (λ (e : (linkOf u s k ≡ f) × (linkOf t s k ≡ 0)). inr (rw (e .0) leaf-chained)) (link-cases a k s h)
 
   -- The head's root, and what is named.

@@ -55,7 +55,8 @@ module _ {t u : List ℕ} {c p j f : ℕ} (a : Growth t u c p j f) where
         go (inr e) d = rw (ne-eqb k p (e .0)) (kept (λ q. e .0 (q .0)))
         go (inl e) (inr d) = rw (eq-eqb k p (e .0), ne-eqb side (number s) (d .0)) (kept (λ q. d .0 (omega (arith, q .1))))
         go (inl e) (inl d) =
-            rw (eq-eqb k p (e .0), eq-eqb side (number s) (d .0)) (ap (descend m u) (ap (linkOf u s) (e .0) ∙ link-leaf a s (at ∙ ap suc (d .0)) .0) ∙ leaf-tree m (omega (arith, size-child t ok k s h)))
+            let there = ap (linkOf u s) (e .0) ∙ link-leaf a s (at ∙ ap suc (d .0)) .0 in
+            rw (eq-eqb k p (e .0), eq-eqb side (number s) (d .0)) (ap (descend m u) there ∙ leaf-tree m (omega (arith, size-child t ok k s h)))
 
     grown-at : (m k : ℕ) → Grown m k
     unfolding descend withLeaf number

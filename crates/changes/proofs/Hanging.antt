@@ -111,7 +111,8 @@ module _ (t : List ℕ) (parent side tag : ℕ) (h : hangRefusal t parent side �
 
   hung-ahead : nextOf u f ≡ nextOf t parent
   unfolding hung
-  hung-ahead = writes-last (link ∷ tagging ∷ head ∷ []) f 0 (nextOf t parent) (behind ∷ []) t (omega arith) (room f 0 (omega arith) (hang-within t parent side h .2)) (omega arith, λ q. apart (sym (q .0)), tt)
+  hung-ahead = writes-last (link ∷ tagging ∷ head ∷ []) f 0 (nextOf t parent) (behind ∷ []) t
+      (omega arith) (room f 0 (omega arith) (hang-within t parent side h .2)) (omega arith, λ q. apart (sym (q .0)), tt)
 
   hung-behind : nextOf u parent ≡ f
   unfolding hung

@@ -1,5 +1,5 @@
--- Who names a record to be cut (hanging's Cutting): the one before it on the chain, and its parent's or the head's link, or none. Rests on Lists, Accepted and Nexts (`table`), Places and Hooks (`hanging`)
--- and Graft.
+-- Who names a record to be cut (hanging's Cutting): the one before it on the chain, and its parent's or the head's link, or none. Rests on Lists, Accepted and
+-- Nexts (`table`), Places and Hooks (`hanging`) and Graft.
 use mathlib.Core.Path.{_≡_, refl, sym, ap, _∙_}
 use mathlib.Core.Logic.{_≢_, _⊎_, inl, inr, ⊎-elim}
 use mathlib.Core.List.{List}

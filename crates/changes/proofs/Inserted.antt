@@ -46,7 +46,8 @@ module _ (k f h : ℕ) (ks fs : List ℕ) (b : Behind k f (h ∷ ks) (h ∷ fs))
       go : (before : List ℕ) → ks ≡ drop 1 (before ++ (k ∷ b .after)) → fs ≡ drop 1 (before ++ (k ∷ f ∷ b .after)) → select g fs ≡ select g ks
       go [] p q = rw (p, q) skip
       go (x ∷ xs) p q =
-          let over : select g (k ∷ f ∷ b .after) ≡ select g (k ∷ b .after) = select-append g (k ∷ []) (f ∷ b .after) ∙ ap (λ (l : List ℕ). select g (k ∷ []) ++ l) skip ∙ sym (select-append g (k ∷ []) (b .after)) in
+          let over : select g (k ∷ f ∷ b .after) ≡ select g (k ∷ b .after) =
+          select-append g (k ∷ []) (f ∷ b .after) ∙ ap (λ (l : List ℕ). select g (k ∷ []) ++ l) skip ∙ sym (select-append g (k ∷ []) (b .after)) in
           ap (select g) q ∙ select-append g xs (k ∷ f ∷ b .after) ∙ ap (λ (l : List ℕ). select g xs ++ l) over ∙ sym (ap (select g) p ∙ select-append g xs (k ∷ b .after))
 
 -- A path gets one record more, f, right behind c: the nexts are the same but for those of c and f.

@@ -1,5 +1,6 @@
--- The proofs of what the calls keep, in the order in which they rest on each other. A list with one number more: Inserted. Two tables that differ by one leaf: Graft;
--- from the one without it to the one with it (Grow...), and back (Prune...). Then the calls: Hanging; Hooked, Cutting; Undone, Restored; Elsewhere, OffChain; Kept; Halves; and of the running code: Running.
+-- The proofs of what the calls keep, in the order in which they rest on each other. A list with one number more: Inserted. Two tables that differ by one leaf:
+-- Graft; from the one without it to the one with it (Grow...), and back (Prune...). Then the calls: Hanging; Hooked, Cutting; Undone, Restored; Elsewhere,
+-- OffChain; Kept; Halves; and of the running code: Running.
 pub mod Inserted
 pub mod Graft
 pub mod GrowChain

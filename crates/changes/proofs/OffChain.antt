@@ -74,7 +74,8 @@ module _ {t u : List ℕ} (h : OffChain t u) (parent side tag : ℕ) (z : hangRe
 
   off-hung : OffChain (hung t parent side tag) (hung u parent side tag)
   unfolding hung
-  off-hung = rw (first-same h, h .free (firstFree t) 0 leaf-free (omega arith), parent-next) (off-written h ok _ (slot-low, (omega arith, (omega arith, (omega arith, (omega arith, tt))))) chained freed)
+  off-hung = rw (first-same h, h .free (firstFree t) 0 leaf-free (omega arith), parent-next)
+      (off-written h ok _ (slot-low, (omega arith, (omega arith, (omega arith, (omega arith, tt))))) chained freed)
     where
       l : HungLeaf t parent side tag
       l = hang-leaf t parent side tag z

@@ -71,16 +71,22 @@ module _ {t u : List ℕ} {c p j f : ℕ} (g : Graft t u c p j f) (h : Prunable 
   others-pruned [] c = refl
   others-pruned (k ∷ ks) c = go (startsTree u k) (alike k f) (others-pruned ks (λ x m. c x (member-cons x k ks .1 (inr m))))
     where
-      go : (b : Bool) → Alike k f → nonempty (map (withoutLeaf f) (map (treeAt u) (select (startsTree u) ks))) ≡ map (treeAt t) (select starting ks) →
+      rest : List Tree
+      rest = map (withoutLeaf f) (map (treeAt u) (select (startsTree u) ks))
+
+      go : (b : Bool) → Alike k f → nonempty rest ≡ map (treeAt t) (select starting ks) →
           nonempty (map (withoutLeaf f) (map (treeAt u) (elim b [ true ↦ k ∷ select (startsTree u) ks | false ↦ select (startsTree u) ks ])))
           ≡ map (treeAt t) (elim (not (eqb k f) && b) [ true ↦ k ∷ select starting ks | false ↦ select starting ks ])
       go false (inl e) r = rw (eq-eqb k f (e .0)) r
       go false (inr e) r = rw (ne-eqb k f (e .0)) r
-      go true (inl e) r = rw (eq-eqb k f (e .0)) (ap (λ (x : Tree). nonempty (x ∷ map (withoutLeaf f) (map (treeAt u) (select (startsTree u) ks)))) (ap (λ (x : ℕ). withoutLeaf f (treeAt u x)) (e .0) ∙ leaf-only) ∙ r)
+      go true (inl e) r =
+          let gone = ap (λ (x : ℕ). withoutLeaf f (treeAt u x)) (e .0) ∙ leaf-only in
+          rw (eq-eqb k f (e .0)) (ap (λ (x : Tree). nonempty (x ∷ rest)) gone ∙ r)
       go true (inr e) r =
           let m = c k (member-cons k k ks .1 (inl refl)) in
           let n = ap (withoutLeaf f) (tree-unfolds u (h .accepted) k m) ∙ without-node f k (treeAt u (leftOf u k)) (treeAt u (rightOf u k)) (e .0) in
-          rw (ne-eqb k f (e .0)) (nonempty-node (withoutLeaf f (treeAt u k)) k (withoutLeaf f (treeAt u (leftOf u k))) (withoutLeaf f (treeAt u (rightOf u k))) (map (withoutLeaf f) (map (treeAt u) (select (startsTree u) ks))) n ∙ ap₂ (λ (x : Tree) (xs : List Tree). x ∷ xs) (sym (pruned-at k k m (inr (refl, e .0)))) r)
+          let some = nonempty-node (withoutLeaf f (treeAt u k)) k (withoutLeaf f (treeAt u (leftOf u k))) (withoutLeaf f (treeAt u (rightOf u k))) rest n in
+          rw (ne-eqb k f (e .0)) (some ∙ ap₂ (λ (x : Tree) (xs : List Tree). x ∷ xs) (sym (pruned-at k k m (inr (refl, e .0)))) r)
 
   others-left : select starting (chain u) ≡ select (startsTree t) (chain t)
   unfolding startsTree
@@ -93,4 +99,5 @@ module _ {t u : List ℕ} {c p j f : ℕ} (g : Graft t u c p j f) (h : Prunable 
 
   pub pruned-trees : trees t ≡ withoutNode f (trees u)
   unfolding withoutNode
-  pruned-trees = ap₂ (λ (x : Tree) (xs : List Tree). x ∷ xs) (pruned-at (rootOf u) (rootOf t) (top g h) (root-paired g h)) (sym (others-pruned (chain u) (λ k m. m) ∙ ap (map (treeAt t)) others-left))
+  pruned-trees = ap₂ (λ (x : Tree) (xs : List Tree). x ∷ xs) (pruned-at (rootOf u) (rootOf t) (top g h) (root-paired g h))
+      (sym (others-pruned (chain u) (λ k m. m) ∙ ap (map (treeAt t)) others-left))

@@ -7,8 +7,9 @@ use Rattle.table.specs.Table.{firstFree}
 use Rattle.hanging.specs.Hanging.{hangRefusal, afterHang}
 use Rattle.hanging.specs.Holding.{heldRefusal, afterHeld}
 
--- The second half on the table t as it then stands. What was held is the record that the first half named, of t or of an earlier table: the first free one there (Hanging, `hangSays`). As long as it is
--- the first free one of t: "The halves in succession do what hang does." Otherwise nothing is written. What hanging refuses comes first, and the answer is 11 exactly "when another record would now be used, after 10".
+-- The second half on the table t as it then stands. What was held is the record that the first half named, of t or of an earlier table: the first free one
+-- there (Hanging, `hangSays`). As long as it is the first free one of t: "The halves in succession do what hang does." Otherwise nothing is written. What
+-- hanging refuses comes first, and the answer is 11 exactly "when another record would now be used, after 10".
 pub record SecondHalf (t : List ℕ) (parent side tag held : ℕ) : Type 0 where
   pub answers : held ≡ firstFree t → heldRefusal t parent side held ≡ hangRefusal t parent side
   pub leaves : held ≡ firstFree t → afterHeld t parent side tag held ≡ afterHang t parent side tag

@@ -46,8 +46,9 @@ pub record Behind (k f : ℕ) (ks fs : List ℕ) : Type 0 where
   pub without : ks ≡ before ++ (k ∷ after)
   pub inserted : fs ≡ before ++ (k ∷ f ∷ after)
 
--- "the first free record becomes that child, follows its parent in the chain": the table is accepted; the trees have the leaf at that place; it has that tag, and the other nodes theirs; in the chain, the head before it, the leaf stands right
--- behind its parent; it was the first of the free records, and the others are free.
+-- "the first free record becomes that child, follows its parent in the chain": the table is accepted; the trees have the leaf at that place; it has that
+-- tag, and the other nodes theirs; in the chain, the head before it, the leaf stands right behind its parent; it was the first of the free records, and the
+-- others are free.
 pub record HungLeaf (t : List ℕ) (parent side tag : ℕ) : Type 0 where
   pub accepted : fault (hung t parent side tag) ≡ 0
   pub grown : trees (hung t parent side tag) ≡ withChild parent side (firstFree t) (trees t)

@@ -1,5 +1,5 @@
--- Laws of the drawer's answer, and of placing. The answer: Answered, OffChain, Elsewhere, Whole. Storing: StoredPoints, StoredOrder, StoredTrees. Along a spine: Shapes, Columns, Onward, Walking,
--- Starting. From tree to tree: Stacking.
+-- Laws of the drawer's answer, and of placing. The answer: Answered, OffChain, Elsewhere, Whole. Storing: StoredPoints, StoredOrder, StoredTrees. Along
+-- a spine: Shapes, Columns, Onward, Walking, Starting. From tree to tree: Stacking.
 pub mod Answered
 pub mod OffChain
 pub mod StoredPoints

@@ -110,7 +110,8 @@ module _ (W : ℕ) (a : Side) (e H r k : ℕ) (s : Side) (S Q : Tree) (ls : List
   pub ordinary-on : finished W a e (roleNext a ordinary ls) (r + heightOn a S) (r + max 1 (heightOn a S)) Q ls (store (hungOn a (inwards a e 2) (r + 1) S) (withPoint k (inwards a e 1) r p))
       ≡ finished W a e ordinary H r Q (hangs k s S ∷ ls) p
   unfolding lay finish finished kept
-  ordinary-on = finished-run W a e ordinary _ _ Q ls _ refl ∙ ap (store (hungOn a (inwards a e 1) (after-ordinary .under) Q)) (sym (store-join k (at (inwards a e 1) r) s _ _ p (apart-laid a a _ e _ _ _ _ _ _ S ls apart)))
+  ordinary-on = finished-run W a e ordinary _ _ Q ls _ refl ∙ ap (store (hungOn a (inwards a e 1) (after-ordinary .under) Q))
+      (sym (store-join k (at (inwards a e 1) r) s _ _ p (apart-laid a a _ e _ _ _ _ _ _ S ls apart)))
 
   abbrev after-switch : ℕ → Rest
   after-switch g = lay (opposite a) f g (roleNext (opposite a) switch ls) (r + heightOn a S + heightOn a Q) (r + 1) 0 ls

@@ -1,4 +1,5 @@
--- The trees of a table drawn one after the other, from the first root to the last: what is left of them gives what all of them give. Rests on the laws of accepted tables and of the drawing of several trees.
+-- The trees of a table drawn one after the other, from the first root to the last: what is left of them gives what all of them give. Rests on the laws of
+-- accepted tables and of the drawing of several trees.
 use mathlib.Core.Path.{_≡_, refl, ap, sym, _∙_}
 use mathlib.Core.Logic.{inr}
 use mathlib.Core.List.{List, [], _∷_, map}
@@ -45,7 +46,8 @@ pub record Stacking (t p₀ : List ℕ) (w top unplaced i : ℕ) (p : List ℕ) 
   pub long : length p ≡ length p₀
 
 -- One tree more.
-stored-next : (a : Tree) (ts : List Tree) (p p′ : List ℕ) (top below : ℕ) → below ≡ top + height (draw a) → p′ ≡ store (shift 0 top (draw a)) p → storeAll (drawFrom below ts) p′ ≡ storeAll (drawFrom top (a ∷ ts)) p
+stored-next : (a : Tree) (ts : List Tree) (p p′ : List ℕ) (top below : ℕ) → below ≡ top + height (draw a) → p′ ≡ store (shift 0 top (draw a)) p →
+    storeAll (drawFrom below ts) p′ ≡ storeAll (drawFrom top (a ∷ ts)) p
 unfolding drawFrom storeAll
 stored-next a ts p p′ top below e f = rw (e, f)
 
@@ -137,7 +139,8 @@ module _ (t : List ℕ) (ok : fault t ≡ 0) (c : Chained t (rootOf t)) where
             rows = omega (arith, height-size left (treeAt t (getD order i 0)), stack-size, g .room, few-nodes t ok);
           }
 
-      pub stack-step : (sizes : List ℕ) → Sized t sizes → (v below n : ℕ) (p′ : List ℕ) → v ≡ max w (widthOn left (treeAt t (getD order i 0))) → SubtreeDrawn t left (getD order i 0) 0 top p below p′ → n ≡ unplaced - getD sizes (getD order i 0) 0 →
+      pub stack-step : (sizes : List ℕ) → Sized t sizes → (v below n : ℕ) (p′ : List ℕ) → v ≡ max w (widthOn left (treeAt t (getD order i 0))) →
+          SubtreeDrawn t left (getD order i 0) 0 top p below p′ → n ≡ unplaced - getD sizes (getD order i 0) 0 →
           length p′ ≡ length p → Stacking t p₀ v below n (i + 1) p′
       unfolding widthOn heightOn facing
       stack-step sizes z v below n p′ wide d e long =

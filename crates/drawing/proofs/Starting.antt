@@ -41,9 +41,9 @@ some-node : (t : List ℕ) → fault t ≡ 0 → (k : ℕ) → Chained t k → 0
 unfolding size
 some-node t ok k c = omega (arith, ap size (tree-unfolds t ok k c))
 
-pub nothing-drawn : (t : List ℕ) (s : Side) (k e top : ℕ) (p : List ℕ) → k ≡ 0 → SubtreeDrawn t s k e top p top p
+pub no-subtree : (t : List ℕ) (s : Side) (k e top : ℕ) (p : List ℕ) → k ≡ 0 → SubtreeDrawn t s k e top p top p
 unfolding store
-nothing-drawn t s k e top p z = record {
+no-subtree t s k e top p z = record {
   ends = omega (arith, ap (heightOn s) nothing, height-none s);
   stored = sym (ap (λ (T : Tree). store (hungOn s e top T) p) nothing ∙ ap (λ (L : Layout). store L p) (hung-none s e top));
 }
@@ -57,7 +57,8 @@ nothing-drawn t s k e top p z = record {
 pub column-drawn : (t roles widest : List ℕ) (s : Side) (k e c top : ℕ) → fault t ≡ 0 → 0 < k → Drawable t roles widest s k e c top → Inside 65536 s e (c + 1)
 column-drawn t roles widest s k e c top ok h g = inside-less 65536 s e (omega (arith, width-node s (treeAt t k) (some-node t ok k (named-node t k (g .named) h)))) (g .columns)
 
-pub drawable-side : (t roles widest : List ℕ) (b d : Bool) (k e c top edge : ℕ) → b ≡ d → edge ≡ inwards (sideOf b) e c → Drawable t roles widest (sideOf b) k e c top → Drawable t roles widest (sideOf d) k edge 0 top
+pub drawable-side : (t roles widest : List ℕ) (b d : Bool) (k e c top edge : ℕ) → b ≡ d → edge ≡ inwards (sideOf b) e c →
+    Drawable t roles widest (sideOf b) k e c top → Drawable t roles widest (sideOf d) k edge 0 top
 drawable-side t roles widest b d k e c top edge q r h = subst (λ (x : Bool). Drawable t roles widest (sideOf x) k edge 0 top) q (record {
   named = h .named;
   prepared = h .prepared;
@@ -65,7 +66,8 @@ drawable-side t roles widest b d k e c top edge q r h = subst (λ (x : Bool). Dr
   rows = h .rows;
 })
 
-pub drawn-side : (t : List ℕ) (b d : Bool) (k e c top below edge : ℕ) (p p′ : List ℕ) → b ≡ d → edge ≡ inwards (sideOf b) e c → SubtreeDrawn t (sideOf d) k edge top p below p′ → SubtreeDrawn t (sideOf b) k (inwards (sideOf b) e c) top p below p′
+pub drawn-side : (t : List ℕ) (b d : Bool) (k e c top below edge : ℕ) (p p′ : List ℕ) → b ≡ d → edge ≡ inwards (sideOf b) e c →
+    SubtreeDrawn t (sideOf d) k edge top p below p′ → SubtreeDrawn t (sideOf b) k (inwards (sideOf b) e c) top p below p′
 drawn-side t b d k e c top below edge p p′ q r h = subst₂ (λ (x : Bool) (n : ℕ). SubtreeDrawn t (sideOf x) k n top p below p′) (sym q) r h
 
 -- ---- the end
@@ -148,7 +150,10 @@ module _ (t roles widest : List ℕ) (ok : fault t ≡ 0) (b : Bool) (root edge 
 
   remaining-start : (p : List ℕ) → remaining t knee (start b) p ≡ store (hungOn s edge top (treeAt t root)) p
   unfolding widthOn
-  remaining-start p = rw (tree-none t) (finished-none (getD widest root 0) s edge knee top top _ p ∙ ap (λ (L : Layout). store L p) (sym (hung-law s edge _ top (treeAt t root) (rw widest-law (frame-from s edge _)) (inside-fits 65536 s edge (draw (facing s (treeAt t root))) inside))))
+  remaining-start p =
+      let fits = inside-fits 65536 s edge (draw (facing s (treeAt t root))) inside in
+      rw (tree-none t) (finished-none (getD widest root 0) s edge knee top top _ p ∙ ap (λ (L : Layout). store L p)
+      (sym (hung-law s edge _ top (treeAt t root) (rw widest-law (frame-from s edge _)) fits)))
 
   bottom-start : rowBelow t knee (start b) ≡ top + heightOn s (treeAt t root)
   bottom-start = rw (tree-none t, height-none s) (bottom-law s top (treeAt t root) some)
@@ -188,7 +193,8 @@ module _ (t roles widest : List ℕ) where
         kept = refl;
       }
 
-  pub walked-on : (p₀ : List ℕ) (w₀ : Walk) (p : List ℕ) (w : Walk) (p′ : List ℕ) (w′ : Walk) → (g : SoFar t roles widest p₀ w₀ p w) → Stepped t roles widest (g .role) w p w′ p′ → length p′ ≡ length p → SoFar t roles widest p₀ w₀ p′ w′
+  pub walked-on : (p₀ : List ℕ) (w₀ : Walk) (p : List ℕ) (w : Walk) (p′ : List ℕ) (w′ : Walk) → (g : SoFar t roles widest p₀ w₀ p w) →
+      Stepped t roles widest (g .role) w p w′ p′ → length p′ ≡ length p → SoFar t roles widest p₀ w₀ p′ w′
   walked-on p₀ w₀ p w p′ w′ g d e = record {
     role = d .role;
     going = d .going;

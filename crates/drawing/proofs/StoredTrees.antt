@@ -1,5 +1,6 @@
--- Laws of `storeAll`: the length is kept (`stored-length`), every entry but those of the layouts' records is kept (`stored-kept`), and the entries of their nodes are their points where no record is in them
--- twice (`stored-points`). The drawings of trees have the records of the trees (`times-trees`). Rests on StoredPoints.
+-- Laws of `storeAll`: the length is kept (`stored-length`), every entry but those of the layouts' records is kept (`stored-kept`), and the entries of their
+-- nodes are their points where no record is in them twice (`stored-points`). The drawings of trees have the records of the trees (`times-trees`). Rests on
+-- StoredPoints.
 use mathlib.Core.Path.{_≡_, refl, _∙_}
 use mathlib.Core.Logic.{_≢_}
 use mathlib.Core.List.{List, [], _∷_}

@@ -29,7 +29,9 @@ use Rattle.drawing.specs.declared.place.Walk.{Walk}
 use Rattle.drawing.specs.inner.Placing.{Given, Drawable, SubtreeDrawn, finished, Ready, walkTo, handAt, Going, Stepped}
 use Rattle.drawing.proofs.Shapes.{Disjoint}
 use Rattle.drawing.proofs.Columns.{inside-edge, inside-count}
-use Rattle.drawing.proofs.Onward.{knee-far, knee-near, ordinary-on, switch-over, bottom-far, bottom-near, bottom-over, along-role, along-hung, along-next, goes-on, at-knee-room, at-ordinary-room, at-switch-width, at-switch-room, ready-far, ready-near, ready-ordinary, ready-switch, rows-far, rows-knee, rows-ordinary, rows-switch}
+use Rattle.drawing.proofs.Onward.{knee-far, knee-near, ordinary-on, switch-over, bottom-far, bottom-near, bottom-over}
+use Rattle.drawing.proofs.Onward.{along-role, along-hung, along-next, goes-on, at-knee-room, at-ordinary-room, at-switch-width, at-switch-room}
+use Rattle.drawing.proofs.Onward.{ready-far, ready-near, ready-ordinary, ready-switch, rows-far, rows-knee, rows-ordinary, rows-switch}
 
 pub size-none : (t : List ℕ) → size (treeAt t 0) ≡ 0
 unfolding size
@@ -160,7 +162,8 @@ module _ (t roles widest : List ℕ) (w : Walk) (spine hung : ℕ) (h : Side) (f
 
   -- A knee, its child hung on the far side.
   pub stepped-far : (p : List ℕ) → far a h ≡ true → Going t roles widest knee w →
-      Stepped t roles widest knee w p (walkTo w spine (H + heightOn a S + 1) (H + heightOn a S) 0 (w .right) (w .edge)) (store (hungOn a (inwards a (w .edge) 1) (H + 1) S) (withPoint (w .at) (w .edge) (w .row) p))
+      Stepped t roles widest knee w p (walkTo w spine (H + heightOn a S + 1) (H + heightOn a S) 0 (w .right) (w .edge))
+      (store (hungOn a (inwards a (w .edge) 1) (H + 1) S) (withPoint (w .at) (w .edge) (w .row) p))
   stepped-far p e g = went knee _ _ _ 0 (w .right) (w .edge) p _ none (tree-none t) (inl refl) (once-none knee g) none-less
       (ready-far roles widest (w .widest) a (w .edge) _ _ (w .at) h S Q _ e (here knee g))
       (knee-far (w .widest) a (w .edge) _ _ (w .at) h S Q _ p (apart knee g) e) (bottom-far a h _ _ _ (w .at) S _ e)
@@ -191,7 +194,10 @@ module _ (t roles widest : List ℕ) (w : Walk) (spine hung : ℕ) (h : Side) (f
   -- ---- what is asked on the way
 
   pub edge-knee : Going t roles widest knee w → (w .edge < 65536) × (H + 1 ≤ 65536)
-  edge-knee g = (inside-edge a (w .edge) _ (inside-less 65536 a (w .edge) {v = 1} (omega arith) (at-knee-room (here knee g .rooms))), rows-knee roles widest (w .widest) a (w .edge) _ _ (w .at) h S Q _ (here knee g))
+  edge-knee g = (
+    inside-edge a (w .edge) _ (inside-less 65536 a (w .edge) {v = 1} (omega arith) (at-knee-room (here knee g .rooms))),
+    rows-knee roles widest (w .widest) a (w .edge) _ _ (w .at) h S Q _ (here knee g),
+  )
 
   pub drawable-far : far a h ≡ true → Going t roles widest knee w → Drawable t roles widest a hung (w .edge) 1 (H + 1)
   drawable-far e g = record {
@@ -257,7 +263,8 @@ module _ (t roles widest : List ℕ) (w : Walk) (spine hung : ℕ) (h : Side) (f
       stepped-as ordinary p _ _ _ _ (v ∙ ap₂ (λ (m n : ℕ). walkTo w spine m n (w .pending) (w .right) (w .edge)) (omega (arith, d .ends)) (omega (arith, d .ends)))
       (d .stored ∙ cc) (stepped-ordinary p g)
 
-  pub after-switch : (p p₁ p₂ p₃ : List ℕ) (column under below other : ℕ) (b : Bool) → column ≡ inwards a (w .edge) 1 → p₁ ≡ withPoint (w .at) column (w .row) p → SubtreeDrawn t a hung (inwards a (w .edge) 1) (w .row + 1) p₁ under p₂ →
+  pub after-switch : (p p₁ p₂ p₃ : List ℕ) (column under below other : ℕ) (b : Bool) → column ≡ inwards a (w .edge) 1 →
+      p₁ ≡ withPoint (w .at) column (w .row) p → SubtreeDrawn t a hung (inwards a (w .edge) 1) (w .row + 1) p₁ under p₂ →
       SubtreeDrawn t a (w .pending) (inwards a (w .edge) 1) under p₂ below p₃ → other ≡ inwards a (w .edge) (w .widest + 2) → sideOf b ≡ opposite a → Going t roles widest switch w →
       Stepped t roles widest switch w p (walkTo w spine (w .row + 1) (below - 1) 0 b other) p₃
   after-switch p p₁ p₂ p₃ column under below other b c q d d′ o e g =

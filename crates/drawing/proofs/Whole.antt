@@ -77,7 +77,10 @@ roots-lead t n list order l some =
 -- No nodes: one tree, which is none.
 pub no-trees : (t : List ℕ) → fault t ≡ 0 → length (chain t) ≡ 0 → trees t ≡ none ∷ []
 unfolding select
-no-trees t ok e = ⊎-elim (λ z. rw (z .0, z .1) (ap (λ (a : Tree). a ∷ []) (tree-none t))) (λ c. absurd (omega (arith, length-within (rootOf t ∷ []) (chain t) (within-one (rootOf t) (chain t) c)))) (root t ok)
+no-trees t ok e = ⊎-elim
+    (λ z. rw (z .0, z .1) (ap (λ (a : Tree). a ∷ []) (tree-none t)))
+    (λ c. absurd (omega (arith, length-within (rootOf t ∷ []) (chain t) (within-one (rootOf t) (chain t) c))))
+    (root t ok)
 
 pub nothing-drawn : (t p : List ℕ) → refusal t (length p) ≡ 0 → fault t ≡ 0 → length (chain t) ≡ 0 →
     (_≡_ {A = Drawn} (record { refusal = 0; plan = emptyPlan }) (drawnOf t p)) × (p ≡ placedIn t p)

@@ -10,7 +10,8 @@ use Rattle.table.specs.Tree.{Tree, size}
 use Rattle.layout.specs.Layout.{Layout, blank, placed, width, height, shift, flip}
 use Rattle.layout.specs.Spine.{SpineNode, hangs, Role, knee, ordinary, switch, opposite, seen, roleAfter, handAfter, assigned, rolesAfter, facing}
 use Rattle.layout.specs.Drawing.{Part, part, hang, widest, join, place, draw}
-use Rattle.layout.specs.inner.Held.{inwards, put, hungOn, heightOn, widthOn, spineOn, roleNext, far, lay, rolesFrom, widestOn, Frame, Fit, Exact, bottom, Inside, GoesOn, Rooms, no-rooms, knee-room, ordinary-room, switch-room}
+use Rattle.layout.specs.inner.Held.{inwards, put, hungOn, heightOn, widthOn, spineOn, roleNext, far, lay, rolesFrom, widestOn, bottom}
+use Rattle.layout.specs.inner.Held.{Frame, Fit, Exact, Inside, GoesOn, Rooms, no-rooms, knee-room, ordinary-room, switch-room}
 use Rattle.layout.proofs.Motions.{edge-wide}
 use Rattle.layout.proofs.Rows.{shape, count, size-facing}
 use Rattle.layout.proofs.Steps.{wide-join}
@@ -119,7 +120,8 @@ module _ (B W t : ℕ) where
       let x = exact B W a e f fr i′ in
       let wD : widthOn a S ≤ W = omega arith in
       let wN = place-wide W ps (omega arith) (r + height D + p) (r + 1) 0 in
-      let n = laid (opposite a) f e (W + 3) (frame-back W a e f x) (inside-back B W a e f x i′) z (r + height D + p) (r′ + height D + p) (r + 1) (r′ + 1) 0 (omega arith) (omega arith) (omega arith) wN in
+      let n = laid (opposite a) f e (W + 3) (frame-back W a e f x) (inside-back B W a e f x i′) z
+      (r + height D + p) (r′ + height D + p) (r + 1) (r′ + 1) 0 (omega arith) (omega arith) (omega arith) wN in
       record {
         drawn = held-join a e t k 1 r 1 (r + 1) s S (flip (W + 2) N) refl j (omega arith) (n .drawn ∙ sym (put-flip a e f (W + 2) t x N (omega arith)));
         under = omega arith;
@@ -173,7 +175,8 @@ module _ (B W t : ℕ) where
 module _ (B : ℕ) (s : Side) (e f t : ℕ) (S : Tree) (fr : Frame s e f (widestOn s S + 2)) (i : Inside B s e (widthOn s S)) where
   all-laid : Laid B (widestOn s S) t s e f knee t t 0 (spineOn s S) 0 0 (partsOn s S)
   unfolding widestOn widthOn
-  all-laid = laid B (widestOn s S) t s e f (widthOn s S) fr i (told-on s (light-on (size S) s S (omega arith))) 0 t 0 t 0 (omega arith) (omega arith) (omega arith) (omega (arith, ap width (draw-on s S)))
+  all-laid = laid B (widestOn s S) t s e f (widthOn s S) fr i (told-on s (light-on (size S) s S (omega arith))) 0 t 0 t 0
+      (omega arith) (omega arith) (omega arith) (omega (arith, ap width (draw-on s S)))
 
   pub rooms-law : Rooms B (widestOn s S) s e f knee (spineOn s S)
   rooms-law = all-laid .rooms

@@ -105,7 +105,8 @@ module _ (e : ℕ) where
       let g : e - Q .column + Q .column ≡ e = omega arith in
       record { u = m .u; v = m .v; sum = m .sum; in-column = omega (arith, m .in-column, weighed m e, ap (λ (n : ℕ). m .u * n) f, ap (λ (n : ℕ). m .v * n) g); in-row = m .in-row }
 
-  edge-flipped : {P : Point} {q x y : ℕ} → P .column ≤ e → (L : Layout) → width L ≤ suc e → (h : HasRoot (flip e L)) → Weights (at (e - P .column) (P .row)) (point (top h)) q x y → EdgeTo P q (q * e - x) y L
+  edge-flipped : {P : Point} {q x y : ℕ} → P .column ≤ e → (L : Layout) → width L ≤ suc e → (h : HasRoot (flip e L)) →
+      Weights (at (e - P .column) (P .row)) (point (top h)) q x y → EdgeTo P q (q * e - x) y L
   unfolding flip width
   edge-flipped h (placed k Q a b) w a-root m = record { has = a-root; on = weights-flipped h (omega arith) m }
 

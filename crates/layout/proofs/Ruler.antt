@@ -1,5 +1,6 @@
--- What a ruler covers (document 02, Paper 9, "nothing of its neighbour beneath it"): in the rows of a subtree that is drawn along a spine of its own there are its own nodes and, beside it, only nodes of the
--- spines on the way to it (`ruler`). Rests on no two drawings of a spine sharing a row, and on every node being on a spine.
+-- What a ruler covers (document 02, Paper 9, "nothing of its neighbour beneath it"): in the rows of a subtree that is drawn along a spine of its own there are
+-- its own nodes and, beside it, only nodes of the spines on the way to it (`ruler`). Rests on no two drawings of a spine sharing a row, and on every node being
+-- on a spine.
 use mathlib.Core.Path.{_≡_, refl, sym, ap, subst, _∙_}
 use mathlib.Core.List.{List, [], _∷_}
 use mathlib.Core.Logic.{_⊎_, inl, inr, ⊎-elim}
@@ -80,7 +81,8 @@ module _ (S : Tree) where
 
   hung-once : {k : ℕ} {U U′ : Tree} → count k (nodes S) ≤ 1 → Hangs k U (roles (spine S)) → Hangs k U′ (roles (spine S)) → U ≡ U′
   hung-once {k} {U} {U′} c h i =
-      once k U U′ right switch (spine S) (subst (λ (n : Tree). count k (nodes n) ≤ 1) (sym (spine-whole S)) c) (subst (Hangs k U) (first-knee (spine S)) h) (subst (Hangs k U′) (first-knee (spine S)) i)
+      once k U U′ right switch (spine S) (subst (λ (n : Tree). count k (nodes n) ≤ 1) (sym (spine-whole S)) c)
+      (subst (Hangs k U) (first-knee (spine S)) h) (subst (Hangs k U′) (first-knee (spine S)) i)
 
 drawn-within : {a S : Tree} → DrawnIn a S → (x : ℕ) → count x (nodes S) ≤ count x (nodes a)
 drawn-within whole x = omega arith
@@ -132,7 +134,8 @@ tree-count : (x : ℕ) (a : Tree) (ts : List Tree) → Among (λ c. c ≡ a) ts 
 tree-count x a (c ∷ ts) (Among.here e) = omega (arith, count-trees x c ts, ap (λ (t : Tree). count x (nodes t)) e)
 tree-count x a (c ∷ ts) (there h) = omega (arith, count-trees x c ts, tree-count x a ts h)
 
-pub ruler-trees : (plan : ℕ → Point) (ts : List Tree) (r : ℕ) → AgreesAll plan (drawFrom r ts) → Distinct (nodesOf ts) → (a : Tree) → Among (λ c. c ≡ a) ts → (b : ℕ) → T (member b (nodesOf ts)) → {U : Tree} →
+pub ruler-trees : (plan : ℕ → Point) (ts : List Tree) (r : ℕ) → AgreesAll plan (drawFrom r ts) → Distinct (nodesOf ts) →
+    (a : Tree) → Among (λ c. c ≡ a) ts → (b : ℕ) → T (member b (nodesOf ts)) → {U : Tree} →
     DrawnIn a U → OccupiesRow plan U (plan b .row) → Beneath a b U
 ruler-trees plan ts r fit distinct a h b m {U} d o =
     ruler a (repeats-count (nodes a) .1 (λ x. omega (arith, tree-count x a ts h, repeats-count (nodesOf ts) .0 distinct x))) (each-tree ts r fit a h) b in-a d o

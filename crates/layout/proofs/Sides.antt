@@ -44,7 +44,8 @@ roles-seen u s o (l ∷ ls) =
     heads (seen-twice u (handAfter o s) l ∙ ap (λ (z : Side). seen z l) (hand-on u o s)) (λ o′. roles-seen u (handAfter o s) o′ ls ∙ ap (λ (z : Side). rolesAfter z o′ ls) (hand-on u o s))
   where
     heads : {m n : SpineNode} → m ≡ n → ((o′ : Role) → rolesAfter (handAfter o s) o′ (map (seen u) ls) ≡ rolesAfter (handAfter o (sideOn u s)) o′ ls) →
-        _≡_ {A = List Assigned} (assigned (roleAfter o m) m ∷ rolesAfter (handAfter o s) (roleAfter o m) (map (seen u) ls)) (assigned (roleAfter o n) n ∷ rolesAfter (handAfter o (sideOn u s)) (roleAfter o n) ls)
+        _≡_ {A = List Assigned} (assigned (roleAfter o m) m ∷ rolesAfter (handAfter o s) (roleAfter o m) (map (seen u) ls))
+        (assigned (roleAfter o n) n ∷ rolesAfter (handAfter o (sideOn u s)) (roleAfter o n) ls)
     heads {n} e h = rw e (ap (λ (rs : List Assigned). assigned (roleAfter o n) n ∷ rs) (h (roleAfter o n)))
 
 side-right : (s : Side) → sideOn s right ≡ opposite s

@@ -57,7 +57,8 @@ unfolding spine spineOn facing mirror seen opposite
 spine-on left none = refl
 spine-on right none = refl
 spine-on left (node k a b) = by-test left (leb (size b) (size a)) (hangs k right b) (hangs k left a) (spineOn left a) (spineOn left b) (spine-on left a) (spine-on left b)
-spine-on right (node k a b) = rw (size-mirror a, size-mirror b, spine) (by-test right (leb (size a) (size b)) (hangs k left a) (hangs k right b) (spineOn right b) (spineOn right a) (spine-on right b) (spine-on right a))
+spine-on right (node k a b) = rw (size-mirror a, size-mirror b, spine)
+    (by-test right (leb (size a) (size b)) (hangs k left a) (hangs k right b) (spineOn right b) (spineOn right a) (spine-on right b) (spine-on right a))
 
 spine-here : (t : Tree) → spine t ≡ spineOn left t
 unfolding facing seen
@@ -171,7 +172,9 @@ widest-one d o (hangs k s t) ps = refl
 -- A knee is in column 0, so what follows a switch goes to the frame's other edge.
 pub knee-wide : (W H r p k : ℕ) (s : Side) (D : Layout) (ps : List Part) → width (flip (W + 2) (place W H r p (part knee k s D ∷ ps) .drawn)) ≡ W + 3
 unfolding place flip width
-knee-wide W H r p k left D ps = omega (arith, width-flip (W + 2) (shift 1 (place W (max H r) (max H r + 1) (height D) ps .under) D), width-flip (W + 2) (place W (max H r) (max H r + 1) (height D) ps .drawn))
+knee-wide W H r p k left D ps =
+    let n = place W (max H r) (max H r + 1) (height D) ps in
+    omega (arith, width-flip (W + 2) (shift 1 (n .under) D), width-flip (W + 2) (n .drawn))
 knee-wide W H r p k right D ps = omega (arith, width-flip (W + 2) (place W (max H r + height D) (max H r + height D + 1) 0 ps .drawn), width-flip (W + 2) (shift 1 (max H r + 1) D))
 
 -- A node in a column below B, with a drawing and a rest that end before B.

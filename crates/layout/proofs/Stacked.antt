@@ -1,5 +1,6 @@
--- Several trees, one under the other: what the check asks of all their nodes and edges together (`trees-checked`), how wide and how high they are (`trees-narrow`, `trees-short`), and that
--- every row holds a node (`rows-held`). Two trees share no row, so that what is at one row, or shares a point, is in one tree (`one-row`, `same-tree`). Rests on the theorem on one drawing, on Records and on Motions.
+-- Several trees, one under the other: what the check asks of all their nodes and edges together (`trees-checked`), how wide and how high they are
+-- (`trees-narrow`, `trees-short`), and that every row holds a node (`rows-held`). Two trees share no row, so that what is at one row, or shares a point, is in
+-- one tree (`one-row`, `same-tree`). Rests on the theorem on one drawing, on Records and on Motions.
 use mathlib.Core.Path.{_≡_, ap, sym, subst}
 use mathlib.Core.List.{List, [], _∷_}
 use Prim.Native.Nat.{ℕ, suc, _+_, _*_, _-_, _^_, _≤_, _<_, max}
@@ -127,7 +128,11 @@ module _ (plan : ℕ → Point) where
   parent-in k c s = edge-in k c s (at-start (plan k) (plan c) 1)
 
   at-row : {P : Tree → Type 0} {q x y : ℕ} → 1 ≤ q → PointIn P q x y → AtRow plan P q y
-  at-row {P} one z = record { within = λ r a fit h. let w = shift-within 0 r (draw a) (z .shown (shift 0 r (draw a)) fit (subst P (sym (shape-drawn 0 r a)) h)) in (w .from-row, omega (arith, w .to-row)) }
+  at-row {P} one z = record {
+    within = λ r a fit h.
+        let w = shift-within 0 r (draw a) (z .shown (shift 0 r (draw a)) fit (subst P (sym (shape-drawn 0 r a)) h)) in
+        (w .from-row, omega (arith, w .to-row));
+  }
 
   -- Things that share a point are in one tree, which is checked.
   same-tree : {P Q : Tree → Type 0} {q x y : ℕ} → 1 ≤ q → PointIn P q x y → PointIn Q q x y → (ts : List Tree) (r : ℕ) → AgreesAll plan (drawFrom r ts) → Among P ts → Among Q ts → InOneTree plan P Q

@@ -53,13 +53,15 @@ laid-wide W H r p (a-switch {s = left} {D} {ps} h l) = omega (arith, edge-wide 1
 laid-wide W H r p (a-switch {s = right} {D} {ps} h l) = omega (arith, edge-wide 1 (r + 1) D, turned-wide W (r + height D + p) (r + 1) 0 l)
 
 -- The parts that follow a node of role o on the hand s are laid as step 2 says.
-run-laid : (W : ℕ) (l : SpineNode) (ps : List Part) → widest (hang draw (assigned (runRole l) l) ∷ ps) ≤ W → InStep W (turn (runRole l) false) ps → InStep W false (hang draw (assigned (runRole l) l) ∷ ps)
+run-laid : (W : ℕ) (l : SpineNode) (ps : List Part) → widest (hang draw (assigned (runRole l) l) ∷ ps) ≤ W →
+    InStep W (turn (runRole l) false) ps → InStep W false (hang draw (assigned (runRole l) l) ∷ ps)
 unfolding hang runRole widest
 run-laid W (hangs k left none) ps w c = an-ordinary {D = draw none} (omega arith) c
 run-laid W (hangs k left (node i a b)) ps w c = a-switch {D = draw (node i a b)} (omega arith) c
 run-laid W (hangs k right t) ps w c = an-ordinary {D = draw t} (omega arith) c
 
-one-laid : (W : ℕ) (o : Role) (l : SpineNode) (ps : List Part) → widest (hang draw (assigned (roleAfter o l) l) ∷ ps) ≤ W → InStep W (turn (roleAfter o l) false) ps → InStep W (turn o false) (hang draw (assigned (roleAfter o l) l) ∷ ps)
+one-laid : (W : ℕ) (o : Role) (l : SpineNode) (ps : List Part) → widest (hang draw (assigned (roleAfter o l) l) ∷ ps) ≤ W →
+    InStep W (turn (roleAfter o l) false) ps → InStep W (turn o false) (hang draw (assigned (roleAfter o l) l) ∷ ps)
 unfolding roleAfter hang widest
 one-laid W knee l ps w c = run-laid W l ps w c
 one-laid W ordinary l ps w c = run-laid W l ps w c
@@ -88,7 +90,8 @@ spine-wide n (light-node {l} {ls} f i z) = laid-wide _ 0 0 0 (laid n _ right swi
 -- THE LAW: how wide what is drawn on a side is, from the widths of what hangs from the spine.
 pub width-law : (s : Side) (S : Tree) → widthOn s S ≡ cond (turns (partsOn s S)) (widestOn s S + 3) (reaches (partsOn s S))
 unfolding widthOn widestOn
-width-law s S = ap width (draw-on s S) ∙ subst (λ (ps : List Part). Wide ps (width (whole ps))) (parts-on s S) (spine-wide (size (facing s S)) (light-spine (size (facing s S)) (facing s S) (omega arith)))
+width-law s S = ap width (draw-on s S) ∙ subst (λ (ps : List Part). Wide ps (width (whole ps))) (parts-on s S)
+    (spine-wide (size (facing s S)) (light-spine (size (facing s S)) (facing s S) (omega arith)))
 
 -- So W is at most the width.
 widest-reaches : (ps : List Part) → widest ps ≤ reaches ps

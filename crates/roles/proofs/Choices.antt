@@ -80,31 +80,19 @@ handFrom n = sideOf (leb 3 n)
 roleFrom : ℕ → LayoutRole
 roleFrom n = elim (eqb (n % 3) 0) [ true ↦ knee | false ↦ elim (eqb (n % 3) 1) [ true ↦ ordinary | false ↦ switch ] ]
 
-hand-from : (a : Side) (o : LayoutRole) → handFrom (codeOf a o) ≡ a
-unfolding handFrom
-hand-from left knee = refl
-hand-from left ordinary = refl
-hand-from left switch = refl
-hand-from right knee = refl
-hand-from right ordinary = refl
-hand-from right switch = refl
-
-role-from : (a : Side) (o : LayoutRole) → roleFrom (codeOf a o) ≡ o
-unfolding roleFrom
-role-from left knee = refl
-role-from left ordinary = refl
-role-from left switch = refl
-role-from right knee = refl
-role-from right ordinary = refl
-role-from right switch = refl
+decoded : (a : Side) (o : LayoutRole) → (handFrom (codeOf a o) ≡ a) × (roleFrom (codeOf a o) ≡ o) × (codeOf a o < 6)
+unfolding handFrom roleFrom
+decoded left knee = (refl, refl, lit< tt)
+decoded left ordinary = (refl, refl, lit< tt)
+decoded left switch = (refl, refl, lit< tt)
+decoded right knee = (refl, refl, lit< tt)
+decoded right ordinary = (refl, refl, lit< tt)
+decoded right switch = (refl, refl, lit< tt)
 
 pub code-same : (a b : Side) (o p : LayoutRole) → codeOf a o ≡ codeOf b p → (a ≡ b) × (o ≡ p)
-code-same a b o p e = (sym (hand-from a o) ∙ ap handFrom e ∙ hand-from b p, sym (role-from a o) ∙ ap roleFrom e ∙ role-from b p)
+code-same a b o p e = let x = decoded a o in
+    let y = decoded b p in
+    (sym (x .0) ∙ ap handFrom e ∙ y .0, sym (x .1) ∙ ap roleFrom e ∙ y .1)
 
 pub code-small : (a : Side) (o : LayoutRole) → codeOf a o < 6
-code-small left knee = lit< tt
-code-small left ordinary = lit< tt
-code-small left switch = lit< tt
-code-small right knee = lit< tt
-code-small right ordinary = lit< tt
-code-small right switch = lit< tt
+code-small a o = decoded a o .2

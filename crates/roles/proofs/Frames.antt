@@ -73,7 +73,8 @@ nodes-named t ok k n x h = reached (Named t) t step (records t) k n x (member-co
 
 pub once : (t : List ℕ) → fault t ≡ 0 → (k : ℕ) → Named t k → (x : ℕ) → count x (nodes (treeAt t k)) ≤ 1
 once t ok k (inl e) x = rw (e, tree-none t) (unfold nodes count in omega arith)
-once t ok k (inr h) x = down t ok (λ n. count x (nodes (treeAt t n)) ≤ 1) (λ n r m. omega (arith, tree-within (records t) t (roots t) n r x, repeats-count (nodesOf (trees t)) .0 (nodes-distinct t ok) x)) step k h
+once t ok k (inr h) x = down t ok (λ n. count x (nodes (treeAt t n)) ≤ 1)
+    (λ n r m. omega (arith, tree-within (records t) t (roots t) n r x, repeats-count (nodesOf (trees t)) .0 (nodes-distinct t ok) x)) step k h
   where
     split : (n : ℕ) → T (member n (chain t)) → count x (nodes (treeAt t n)) ≡ same x n + (count x (nodes (treeAt t (leftOf t n))) + count x (nodes (treeAt t (rightOf t n))))
     split n m = ap (λ (S : Tree). count x (nodes S)) (tree-unfolds t ok n m) ∙ count-node x n _ _
@@ -95,7 +96,8 @@ mutual
       a-spine (g k (omega (arith, count-node k k a b, same-one k k refl)) ∙ w)
       (along-frame R′ W′ l (λ x h. f x (omega (arith, count-spine s x (node k a b)))) (λ x h. g x (omega (arith, count-spine s x (node k a b), hung-on x (spineOn s (node k a b))))))
 
-  pub along-frame : {R W : List ℕ} (R′ W′ : List ℕ) {a : Side} {o : Role} {ls : List SpineNode} → Along R W a o ls → Agree (λ x. countOn x ls) R R′ → Agree (λ x. countHung x ls) W W′ → Along R′ W′ a o ls
+  pub along-frame : {R W : List ℕ} (R′ W′ : List ℕ) {a : Side} {o : Role} {ls : List SpineNode} → Along R W a o ls →
+      Agree (λ x. countOn x ls) R R′ → Agree (λ x. countHung x ls) W W′ → Along R′ W′ a o ls
   along-frame R′ W′ ended f g = ended
   along-frame R′ W′ (onward {k} {S} {ls} c p l) f g =
       onward (f k (omega (arith, same-one k k refl)) ∙ c)
@@ -110,12 +112,14 @@ Keeps R a [] = Unit {0}
 Keeps R a (assigned o (hangs k s S) ∷ rs) = (getD R k 0 ≡ codeOf a o) × Keeps R (handAfter o a) rs
 
 -- One node of the spine, as its hand sees it.
-pub with-seen : (a : Side) (o : Role) (k : ℕ) (h : Side) (S : Tree) (rs : List Assigned) (R : List ℕ) → withRoles a (assigned o (seen a (hangs k h S)) ∷ rs) R ≡ withRoles (handAfter o a) rs (set R k (codeOf a o))
+pub with-seen : (a : Side) (o : Role) (k : ℕ) (h : Side) (S : Tree) (rs : List Assigned) (R : List ℕ) →
+    withRoles a (assigned o (seen a (hangs k h S)) ∷ rs) R ≡ withRoles (handAfter o a) rs (set R k (codeOf a o))
 unfolding withRoles seen
 with-seen left o k h S rs R = refl
 with-seen right o k h S rs R = refl
 
-pub keeps-seen : (R : List ℕ) (a : Side) (o : Role) (k : ℕ) (h : Side) (S : Tree) (rs : List Assigned) → Keeps R a (assigned o (seen a (hangs k h S)) ∷ rs) ↔ ((getD R k 0 ≡ codeOf a o) × Keeps R (handAfter o a) rs)
+pub keeps-seen : (R : List ℕ) (a : Side) (o : Role) (k : ℕ) (h : Side) (S : Tree) (rs : List Assigned) →
+    Keeps R a (assigned o (seen a (hangs k h S)) ∷ rs) ↔ ((getD R k 0 ≡ codeOf a o) × Keeps R (handAfter o a) rs)
 unfolding seen
 keeps-seen R left o k h S rs = (λ c. c, λ c. c)
 keeps-seen R right o k h S rs = (λ c. c, λ c. c)
@@ -143,7 +147,9 @@ with-kept s o [] R x n = refl
 with-kept s o (hangs k h S ∷ ls) R x n =
     let s′ = handAfter o s in
     let o′ = roleAfter o (seen s′ (hangs k h S)) in
-    ap (λ (X : List ℕ). getD X x 0) (with-seen s′ o′ k h S (rolesAfter s′ o′ ls) R) ∙ (with-kept s′ o′ ls (set R k (codeOf s′ o′)) x (omega arith) ∙ getD-set-other R k x _ 0 (λ e. omega (arith, same-one x k e)))
+    ap (λ (X : List ℕ). getD X x 0) (with-seen s′ o′ k h S (rolesAfter s′ o′ ls) R)
+    ∙ with-kept s′ o′ ls (set R k (codeOf s′ o′)) x (omega arith)
+    ∙ getD-set-other R k x _ 0 (λ e. omega (arith, same-one x k e))
 
 pub with-keeps : (s : Side) (o : Role) (ls : List SpineNode) (R : List ℕ) → ((x : ℕ) → countOn x ls ≤ 1) → ((x : ℕ) → 1 ≤ countOn x ls → x < length R) → KeepsAfter (withAfter s o ls R) s o ls
 unfolding rolesAfter withRoles countOn

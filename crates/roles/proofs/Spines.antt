@@ -34,7 +34,8 @@ stands t ok k n = (λ e. rw e (tree-none t), λ e. ⊎-elim (λ (z : k ≡ 0). z
     never e = let z : _≡_ {A = ℕ} 0 1 = cc in omega arith
 
 -- The first node of the spine is a knee of its side.
-pub with-first : (t : List ℕ) (s : Side) (k k′ hung : ℕ) (h : Side) → Forked t s k k′ hung h → (r : Role) → (handOf r ≡ s) × (roleOf r ≡ knee) → (n : ℕ) → n ≡ codeOf (handOf r) (roleOf r) → (R : List ℕ) →
+pub with-first : (t : List ℕ) (s : Side) (k k′ hung : ℕ) (h : Side) → Forked t s k k′ hung h →
+    (r : Role) → (handOf r ≡ s) × (roleOf r ≡ knee) → (n : ℕ) → n ≡ codeOf (handOf r) (roleOf r) → (R : List ℕ) →
     withRoles s (roles (spine (facing s (treeAt t k)))) R ≡ withAfter (handOf r) (roleOf r) (spineOn s (treeAt t k′)) (set R k n)
 unfolding rolesFrom
 with-first t s k k′ hung h d r e n i R =
@@ -42,7 +43,8 @@ with-first t s k k′ hung h d r e n i R =
     ∙ (with-seen s knee k h (treeAt t hung) (rolesAfter s knee (spineOn s (treeAt t k′))) R ∙ rw (i, e .0, e .1) refl)
 
 -- One more node of the spine.
-pub with-node : (t : List ℕ) → fault t ≡ 0 → (s : Side) (k : ℕ) (f : Fork) → Forked t s k (f .spine) (f .hung) (sideOf (f .«hung_right»)) → (b r : Role) → Follows b f r → (n : ℕ) → n ≡ codeOf (handOf r) (roleOf r) → (R : List ℕ) →
+pub with-node : (t : List ℕ) → fault t ≡ 0 → (s : Side) (k : ℕ) (f : Fork) → Forked t s k (f .spine) (f .hung) (sideOf (f .«hung_right»)) →
+    (b r : Role) → Follows b f r → (n : ℕ) → n ≡ codeOf (handOf r) (roleOf r) → (R : List ℕ) →
     withAfter (handOf b) (roleOf b) (spineOn s (treeAt t k)) R ≡ withAfter (handOf r) (roleOf r) (spineOn s (treeAt t (f .spine))) (set R k n)
 unfolding rolesAfter
 with-node t ok s k f d b r w n i R =

@@ -119,109 +119,109 @@ module _ (t : List ℕ) (ok : fault t ≡ 0) (s : Side) (root : ℕ) where
       within : (x : ℕ) → 1 ≤ countOn x ls → x < length R
       within x i = omega (arith, named-within t ok x (nodes-named t ok root n x (omega (arith, count-spine s x S))))
 
-  module _ {R₀ W₀ R W : List ℕ} {k g e : ℕ} {b : Bool} {a : Side} {o : Role} (v : Surveying t s root R₀ W₀ R W k g e b a o)
-      {k′ hung : ℕ} {h : Side} (d : Forked t s k k′ hung h) where
-    abbrev hand : Side
-    hand = handAfter o a
+  module _ {R₀ W₀ R W : List ℕ} {k g e : ℕ} {b : Bool} {a : Side} {o : Role} (v : Surveying t s root R₀ W₀ R W k g e b a o) where
+    module _ {k′ hung : ℕ} {h : Side} (d : Forked t s k k′ hung h) where
+      abbrev hand : Side
+      hand = handAfter o a
 
-    abbrev role : Role
-    role = roleAfter o (seen hand (hangs k h (treeAt t hung)))
+      abbrev role : Role
+      role = roleAfter o (seen hand (hangs k h (treeAt t hung)))
 
-    pub kept-here : (getD R k 0 ≡ codeOf hand role) × KeepsAfter R hand role (spineOn s (treeAt t k′))
-    unfolding rolesAfter
-    kept-here = keeps-seen R hand role k h (treeAt t hung) (rolesAfter hand role (spineOn s (treeAt t k′))) .0 (subst (KeepsAfter R a o) (d .forks) (v .keeps))
+      pub kept-here : (getD R k 0 ≡ codeOf hand role) × KeepsAfter R hand role (spineOn s (treeAt t k′))
+      unfolding rolesAfter
+      kept-here = keeps-seen R hand role k h (treeAt t hung) (rolesAfter hand role (spineOn s (treeAt t k′))) .0 (subst (KeepsAfter R a o) (d .forks) (v .keeps))
 
-    counted : (x : ℕ) → count x (nodes (treeAt t k)) ≡ same x k + (count x (nodes (treeAt t hung)) + count x (nodes (treeAt t k′)))
-    unfolding countOn
-    counted x = count-spine s x (treeAt t k) ∙ ap (countOn x) (d .forks) ∙ omega (arith, count-spine s x (treeAt t k′))
+      counted : (x : ℕ) → count x (nodes (treeAt t k)) ≡ same x k + (count x (nodes (treeAt t hung)) + count x (nodes (treeAt t k′)))
+      unfolding countOn
+      counted x = count-spine s x (treeAt t k) ∙ ap (countOn x) (d .forks) ∙ omega (arith, count-spine s x (treeAt t k′))
 
-    single : (x : ℕ) → same x k + (count x (nodes (treeAt t hung)) + count x (nodes (treeAt t k′))) ≤ 1
-    single x = omega (arith, counted x, once t ok k (v .named) x)
+      single : (x : ℕ) → same x k + (count x (nodes (treeAt t hung)) + count x (nodes (treeAt t k′))) ≤ 1
+      single x = omega (arith, counted x, once t ok k (v .named) x)
 
-    abbrev ls : List SpineNode
-    ls = spineOn s (treeAt t k′)
+      abbrev ls : List SpineNode
+      ls = spineOn s (treeAt t k′)
 
-    counts : Counts (parts draw a o (spineOn s (treeAt t k))) (max (widthOn hand (treeAt t hung)) (widest (parts draw hand role ls)))
-        (max (edge role + widthOn hand (treeAt t hung)) (reaches (parts draw hand role ls))) (turn role (turns (parts draw hand role ls)))
-    unfolding rolesAfter
-    counts = rw (d .forks) (counts-node hand role k h (treeAt t hung) (parts draw hand role ls))
+      counts : Counts (parts draw a o (spineOn s (treeAt t k))) (max (widthOn hand (treeAt t hung)) (widest (parts draw hand role ls)))
+          (max (edge role + widthOn hand (treeAt t hung)) (reaches (parts draw hand role ls))) (turn role (turns (parts draw hand role ls)))
+      unfolding rolesAfter
+      counts = rw (d .forks) (counts-node hand role k h (treeAt t hung) (parts draw hand role ls))
 
-    pub pass : (R′ W′ : List ℕ) (w : ℕ) → Measured t hand hung R W R′ W′ w →
-        Surveying t s root R₀ W₀ R′ W′ k′ (max g w) (max e (edge role + w)) (turn role b) hand role
-    pass R′ W′ w m = record {
-      named = d .named-spine;
-      keeps = keeps-frame R R′ hand role ls (kept-here .1) (λ x (i : 1 ≤ countOn x ls). m .kept-roles x (omega (arith, single x, count-spine s x (treeAt t k′))));
-      finish = λ R″ W″ kr kg l. v .finish R″ W″
-          (λ x i. kr x (omega (arith, counted x)) ∙ m .kept-roles x (omega (arith, counted x)))
-          (λ x i. kg x (omega (arith, counted x)) ∙ m .kept-widest x (omega (arith, counted x)))
-          (subst (AlongAfter R″ W″ a o) (sym (d .forks)) (along-node a o k h (treeAt t hung) ls (here R″ kr) (hangs-on R″ W″ kr kg) l));
-      inside = λ x. omega (arith, counted x, v .inside x);
-      kept-roles = λ x i. m .kept-roles x (omega (arith, counted x, v .inside x)) ∙ v .kept-roles x i;
-      kept-widest = λ x i. m .kept-widest x (omega (arith, counted x, v .inside x)) ∙ v .kept-widest x i;
-      widest = omega (arith, counts .greatest, m .wide, v .widest);
-      reach = omega (arith, counts .farthest, m .wide, v .reach);
-      turned = turn-or role b (turns (parts draw hand role ls)) ∙ ap (λ (c : Bool). b || c) (sym (counts .switched)) ∙ v .turned;
-    }
-      where
-        here : (R″ : List ℕ) → SameOutside (treeAt t k′) R′ R″ → getD R″ k 0 ≡ codeOf hand role
-        here R″ kr = kr k (omega (arith, single k, same-one k k refl)) ∙ m .kept-roles k (omega (arith, single k, same-one k k refl)) ∙ kept-here .0
+      pub pass : (R′ W′ : List ℕ) (w : ℕ) → Measured t hand hung R W R′ W′ w →
+          Surveying t s root R₀ W₀ R′ W′ k′ (max g w) (max e (edge role + w)) (turn role b) hand role
+      pass R′ W′ w m = record {
+        named = d .named-spine;
+        keeps = keeps-frame R R′ hand role ls (kept-here .1) (λ x (i : 1 ≤ countOn x ls). m .kept-roles x (omega (arith, single x, count-spine s x (treeAt t k′))));
+        finish = λ R″ W″ kr kg l. v .finish R″ W″
+            (λ x i. kr x (omega (arith, counted x)) ∙ m .kept-roles x (omega (arith, counted x)))
+            (λ x i. kg x (omega (arith, counted x)) ∙ m .kept-widest x (omega (arith, counted x)))
+            (subst (AlongAfter R″ W″ a o) (sym (d .forks)) (along-node a o k h (treeAt t hung) ls (here R″ kr) (hangs-on R″ W″ kr kg) l));
+        inside = λ x. omega (arith, counted x, v .inside x);
+        kept-roles = λ x i. m .kept-roles x (omega (arith, counted x, v .inside x)) ∙ v .kept-roles x i;
+        kept-widest = λ x i. m .kept-widest x (omega (arith, counted x, v .inside x)) ∙ v .kept-widest x i;
+        widest = omega (arith, counts .greatest, m .wide, v .widest);
+        reach = omega (arith, counts .farthest, m .wide, v .reach);
+        turned = turn-or role b (turns (parts draw hand role ls)) ∙ ap (λ (c : Bool). b || c) (sym (counts .switched)) ∙ v .turned;
+      }
+        where
+          here : (R″ : List ℕ) → SameOutside (treeAt t k′) R′ R″ → getD R″ k 0 ≡ codeOf hand role
+          here R″ kr = kr k (omega (arith, single k, same-one k k refl)) ∙ m .kept-roles k (omega (arith, single k, same-one k k refl)) ∙ kept-here .0
 
-        hangs-on : (R″ W″ : List ℕ) → SameOutside (treeAt t k′) R′ R″ → SameOutside (treeAt t k′) W′ W″ → Prepared R″ W″ hand (treeAt t hung)
-        hangs-on R″ W″ kr kg =
-            prepared-frame R″ W″ (m .prepared)
-            (λ x (i : 1 ≤ count x (nodes (treeAt t hung))). kr x (omega (arith, single x)))
-            (λ x (i : 1 ≤ count x (nodes (treeAt t hung))). kg x (omega (arith, single x)))
+          hangs-on : (R″ W″ : List ℕ) → SameOutside (treeAt t k′) R′ R″ → SameOutside (treeAt t k′) W′ W″ → Prepared R″ W″ hand (treeAt t hung)
+          hangs-on R″ W″ kr kg =
+              prepared-frame R″ W″ (m .prepared)
+              (λ x (i : 1 ≤ count x (nodes (treeAt t hung))). kr x (omega (arith, single x)))
+              (λ x (i : 1 ≤ count x (nodes (treeAt t hung))). kg x (omega (arith, single x)))
 
-  pub size-inside : {R₀ W₀ R W : List ℕ} {k g e : ℕ} {b : Bool} {a : Side} {o : Role} → Surveying t s root R₀ W₀ R W k g e b a o → size (treeAt t k) ≤ size (treeAt t root)
-  size-inside {k} v = omega (arith, length-within (nodes (treeAt t k)) (nodes (treeAt t root)) (v .inside), length-nodes (treeAt t k), length-nodes (treeAt t root))
+    pub size-inside : size (treeAt t k) ≤ size (treeAt t root)
+    size-inside = omega (arith, length-within (nodes (treeAt t k)) (nodes (treeAt t root)) (v .inside), length-nodes (treeAt t k), length-nodes (treeAt t root))
 
-  -- The end of the survey.
-  module _ (c : T (member root (chain t))) {R₀ W₀ R W : List ℕ} {k g e : ℕ} {b : Bool} {a : Side} {o : Role} (v : Surveying t s root R₀ W₀ R W k g e b a o) where
-    abbrev S : Tree
-    S = treeAt t root
+    -- The end of the survey.
+    module _ (c : T (member root (chain t))) where
+      abbrev S : Tree
+      S = treeAt t root
 
-    pub widest-small : g ≤ 37
-    widest-small = omega (arith, v .widest, widest-less s S, width-small s S (size-small t ok root (inr c)))
+      pub widest-small : g ≤ 37
+      widest-small = omega (arith, v .widest, widest-less s S, width-small s S (size-small t ok root (inr c)))
 
-    none-left : k ≡ 0 → spineOn s (treeAt t k) ≡ []
-    unfolding spineOn
-    none-left z = rw (z, tree-none t) refl
+      none-left : k ≡ 0 → spineOn s (treeAt t k) ≡ []
+      unfolding spineOn
+      none-left z = rw (z, tree-none t) refl
 
-    pub widest-whole : k ≡ 0 → g ≡ widestOn s S
-    widest-whole z = omega (arith, counts-end a o (none-left z) .greatest, v .widest)
+      pub widest-whole : k ≡ 0 → g ≡ widestOn s S
+      widest-whole z = omega (arith, counts-end a o (none-left z) .greatest, v .widest)
 
-    pub wide-whole : k ≡ 0 → cond b (g + 3) e ≡ widthOn s S
-    wide-whole z = let c = counts-end a o (none-left z) in
-        let far : e ≡ reaches (partsOn s S) = omega (arith, c .farthest, v .reach) in
-        let turned : b ≡ turns (partsOn s S) = sym (or-none b) ∙ ap (λ (d : Bool). b || d) (sym (c .switched)) ∙ v .turned in
-        cc (width-law s S, widest-whole z)
+      pub wide-whole : k ≡ 0 → cond b (g + 3) e ≡ widthOn s S
+      wide-whole z = let c = counts-end a o (none-left z) in
+          let far : e ≡ reaches (partsOn s S) = omega (arith, c .farthest, v .reach) in
+          let turned : b ≡ turns (partsOn s S) = sym (or-none b) ∙ ap (λ (d : Bool). b || d) (sym (c .switched)) ∙ v .turned in
+          cc (width-law s S, widest-whole z)
 
-    pub along-whole : k ≡ 0 → Along R W s knee (spineOn s S)
-    along-whole z = first-along s (spineOn s S) (v .finish R W (λ x i. refl) (λ x i. refl) (subst (AlongAfter R W a o) (sym (none-left z)) ended))
+      pub along-whole : k ≡ 0 → Along R W s knee (spineOn s S)
+      along-whole z = first-along s (spineOn s S) (v .finish R W (λ x i. refl) (λ x i. refl) (subst (AlongAfter R W a o) (sym (none-left z)) ended))
 
-    -- W goes to the root's entry, and nothing that is prepared stands there.
-    root-counted : (x : ℕ) → x ≡ root → 1 + countHung x (spineOn s S) ≤ count x (nodes S)
-    root-counted x d = rw (d, tree-unfolds t ok root c) (hung-below s root _ _)
+      -- W goes to the root's entry, and nothing that is prepared stands there.
+      root-counted : (x : ℕ) → x ≡ root → 1 + countHung x (spineOn s S) ≤ count x (nodes S)
+      root-counted x d = rw (d, tree-unfolds t ok root c) (hung-below s root _ _)
 
-    pub measured : (R₁ : List ℕ) → R₀ ≡ withRoles s (roles (spine (facing s S))) R₁ → length W ≡ 4097 → k ≡ 0 → (w : ℕ) → w ≡ cond b (g + 3) e →
-        Measured t s root R₁ W₀ R (set W root g) w
-    measured R₁ i l z w j = record {
-      wide = j ∙ wide-whole z;
-      prepared = top (tree-unfolds t ok root c);
-      kept-roles = λ x n. v .kept-roles x n ∙ ap (λ (X : List ℕ). getD X x 0) (i ∙ with-whole s S R₁)
-          ∙ with-kept (opposite s) switch (spineOn s S) R₁ x (omega (arith, n, count-spine s x S, along-on x (spineOn s S)));
-      kept-widest = λ x n. getD-set-other W root x g 0 (λ d. omega (arith, root-counted x d)) ∙ v .kept-widest x n;
-    }
-      where
-        along : Along R (set W root g) s knee (spineOn s S)
-        along = along-frame R (set W root g) (along-whole z) (λ x q. refl)
-            (λ x (q : 1 ≤ countHung x (spineOn s S)). getD-set-other W root x g 0 (λ d. omega (arith, root-counted x d, once t ok root (inr c) x)))
+      pub measured : (R₁ : List ℕ) → R₀ ≡ withRoles s (roles (spine (facing s S))) R₁ → length W ≡ 4097 → k ≡ 0 → (w : ℕ) → w ≡ cond b (g + 3) e →
+          Measured t s root R₁ W₀ R (set W root g) w
+      measured R₁ i l z w j = record {
+        wide = j ∙ wide-whole z;
+        prepared = top (tree-unfolds t ok root c);
+        kept-roles = λ x n. v .kept-roles x n ∙ ap (λ (X : List ℕ). getD X x 0) (i ∙ with-whole s S R₁)
+            ∙ with-kept (opposite s) switch (spineOn s S) R₁ x (omega (arith, n, count-spine s x S, along-on x (spineOn s S)));
+        kept-widest = λ x n. getD-set-other W root x g 0 (λ d. omega (arith, root-counted x d)) ∙ v .kept-widest x n;
+      }
+        where
+          along : Along R (set W root g) s knee (spineOn s S)
+          along = along-frame R (set W root g) (along-whole z) (λ x q. refl)
+              (λ x (q : 1 ≤ countHung x (spineOn s S)). getD-set-other W root x g 0 (λ d. omega (arith, root-counted x d, once t ok root (inr c) x)))
 
-        top : {A B : Tree} → S ≡ node root A B → Prepared R (set W root g) s S
-        top d =
-            subst (Prepared R (set W root g) s) (sym d)
-            (a-spine (getD-set-same W root g 0 (omega (arith, named-within t ok root (inr c))) ∙ widest-whole z ∙ ap (widestOn s) d)
-            (subst (λ (U : Tree). Along R (set W root g) s knee (spineOn s U)) d along))
+          top : {A B : Tree} → S ≡ node root A B → Prepared R (set W root g) s S
+          top d =
+              subst (Prepared R (set W root g) s) (sym d)
+              (a-spine (getD-set-same W root g 0 (omega (arith, named-within t ok root (inr c))) ∙ widest-whole z ∙ ap (widestOn s) d)
+              (subst (λ (U : Tree). Along R (set W root g) s knee (spineOn s U)) d along))
 
 -- The same at a survey as the program has it.
 pub record Measuring (t : List ℕ) (s : Side) (root : ℕ) (R₀ W₀ R W : List ℕ) (v : Survey) : Type 0 where

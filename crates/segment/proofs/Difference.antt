@@ -49,11 +49,15 @@ diff-pos a b = diff-same _ (diff-sub (whole a) (whole b)) (omega arith)
     whole : (n : ℕ) → Diff (pos n) n 0
     whole n = omega arith
 
+-- the product of two differences
+product : (b d n m : ℕ) {a c : ℕ} → a ≡ b + n → c ≡ d + m → a * c + b * d ≡ a * d + b * c + n * m
+product b d n m {c = c} e f = omega (arith, ap (λ (i : ℕ). i * c) e, ap (λ (i : ℕ). i * d) e, ap (λ (i : ℕ). i * n) f)
+
 pub diff-mul : (z w : ℤ) {a b c d : ℕ} → Diff z a b → Diff w c d → Diff (z *ℤ w) (a * c + b * d) (a * d + b * c)
-diff-mul (pos n) (pos m) {c = c} {d = d} h k = omega (arith, ap (λ (i : ℕ). i * c) (h .is), ap (λ (i : ℕ). i * d) (h .is), ap (λ (i : ℕ). i * n) (k .is))
-diff-mul (pos n) (negsuc m) {c = c} {d = d} h k = diff-neg (pos (n * suc m)) (omega (arith, ap (λ (i : ℕ). i * c) (h .is), ap (λ (i : ℕ). i * d) (h .is), ap (λ (i : ℕ). i * n) (k .is)))
-diff-mul (negsuc n) (pos m) {c = c} {d = d} h k = diff-neg (pos (suc n * m)) (omega (arith, ap (λ (i : ℕ). i * c) (h .is), ap (λ (i : ℕ). i * d) (h .is), ap (λ (i : ℕ). i * suc n) (k .is)))
-diff-mul (negsuc n) (negsuc m) {c = c} {d = d} h k = omega (arith, ap (λ (i : ℕ). i * c) (h .is), ap (λ (i : ℕ). i * d) (h .is), ap (λ (i : ℕ). i * suc n) (k .is))
+diff-mul (pos n) (pos m) {b = b} {d = d} h k = record { is = product b d n m (h .is) (k .is) }
+diff-mul (pos n) (negsuc m) {b = b} {c = c} h k = diff-neg (pos (n * suc m)) (record { is = product b c n (suc m) (h .is) (k .is) })
+diff-mul (negsuc n) (pos m) {a = a} {d = d} h k = diff-neg (pos (suc n * m)) (omega (arith, product a d (suc n) m (h .is) (k .is)))
+diff-mul (negsuc n) (negsuc m) {a = a} {c = c} h k = omega (arith, product a c (suc n) (suc m) (h .is) (k .is))
 
 pub diff-zero : (z : ℤ) {a b : ℕ} → Diff z a b → a ≡ b → z ≡ pos 0
 diff-zero (pos n) h e = ap pos (omega arith)

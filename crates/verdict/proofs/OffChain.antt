@@ -1,4 +1,4 @@
--- Of records on neither chain "left, right and tag change no answer": of the check, `off-chain-verdict`. Rests on that law of tables.
+-- Of records on neither chain "left, right and tag change no answer": of the check, `off-chain-verdict`. Rests on that law of tables and on Clashes.
 use mathlib.Core.Path.{_≡_, sym, _∙_}
 use mathlib.Core.Logic.{_↔_, _⊎_, inl, inr, ⊎-map}
 use mathlib.Core.List.{List}
@@ -10,6 +10,7 @@ use Rattle.table.specs.OffChain.{OffChain}
 use Rattle.table.proofs.OffChain.{chain-same, link-same, refusal-same, off-chain-sym}
 use Rattle.verdict.specs.Conditions.{SamePoint, ChildAbove, TwoLines, LinesClash, NodeOnLine, Clashing, OutOfOrder}
 use Rattle.verdict.specs.Verdict.{Verdict}
+use Rattle.verdict.proofs.Clashes.{two-over}
 
 -- The conditions, of the other table.
 module _ {t u : List ℕ} (h : OffChain t u) where
@@ -27,18 +28,7 @@ module _ {t u : List ℕ} (h : OffChain t u) where
     rows z = record { k = z .k; c = z .c; s = z .s; line = still-line (z .line); above = z .above }
 
     abbrev two-lines : {R : Point → Point → Point → Point → Type 0} → TwoLines t p R → TwoLines u p R
-    two-lines z = record {
-      k = z .k;
-      c = z .c;
-      m = z .m;
-      d = z .d;
-      s = z .s;
-      s′ = z .s′;
-      line = still-line (z .line);
-      line′ = still-line (z .line′);
-      different = z .different;
-      so = z .so;
-    }
+    two-lines z = two-over z (still-line (z .line)) (still-line (z .line′)) (z .so)
 
     meetings : LinesClash t p → LinesClash u p
     meetings z = record { two = two-lines (z .two); elsewhere = z .elsewhere }

@@ -21,13 +21,22 @@ same-length : tie.Need-same-length
 same-length c = search needs
 
 returns : tie.Need-returns
-returns c = undone _ _ _ (c .before .before .before .before .before .before .before .before .before .before .before .before .args .tag) _ (c .before .before .before .before .before .before .before .before .before .hang .ensures .0) _ (c .before .before .before .before .before .before .before .before .before .hang .ensures .1) _ _ _ (c .before .before .before .before .before .leaf .given .1) (record { byte = λ i. omega (arith, c .before .before .before .before .before .before .before .before .before .before .before .slice-known .given i .fits) }) (omega (arith, c .before .before .before .before .before .before .before .before .before .before .before .before .fits .tag .fits)) (c .before .before .cut .ensures .0) (c .before .before .cut .ensures .1)
+returns c =
+    let cut = c .before .before .cut in
+    let leaf = c .before .before .before .before .before .leaf in
+    let hung = c .before .before .before .before .before .before .before .before .before in
+    let known = hung .before .before in
+    let s = known .before in
+    undone _ _ _ (s .args .tag) _ (hung .hang .ensures .0) _ (hung .hang .ensures .1) _ _ _ (leaf .given .1)
+    (record { byte = λ i. omega (arith, known .slice-known .given i .fits) }) (omega (arith, s .fits .tag .fits)) (cut .ensures .0) (cut .ensures .1)
 
 same-length-2 : tie.Need-same-length-2
 same-length-2 c = search needs
 
 returns-2 : tie.Need-returns-2
-returns-2 c = refused _ _ _ (c .before .before .before .before .before .before .before .before .args .tag) _ (c .before .before .before .before .before .hang .ensures .0) _ (c .before .before .before .before .before .hang .ensures .1) _ (c .before .number .given .1)
+returns-2 c =
+    let hung = c .before .before .before .before .before in
+    refused _ _ _ (hung .before .before .before .args .tag) _ (hung .hang .ensures .0) _ (hung .hang .ensures .1) _ (c .before .number .given .1)
 
 pub hang-and-cut-spec : {M : Type 1} → statement M
 hang-and-cut-spec =

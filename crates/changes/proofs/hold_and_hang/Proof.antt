@@ -21,7 +21,11 @@ same-length : tie.Need-same-length
 same-length c = search needs
 
 returns : tie.Need-returns
-returns c = halves _ _ _ (c .before .before .before .before .before .before .before .before .before .before .args .tag) _ (c .before .before .before .before .before .before .before .hold .ensures) _ _ _ (c .before .before .before .before .before .leaf .given .1) (c .before .before .hang-held .ensures .0) (c .before .before .hang-held .ensures .1)
+returns c =
+    let held = c .before .before .hang-held in
+    let leaf = c .before .before .before .before .before in
+    let hold = leaf .before .before in
+    halves _ _ _ (hold .before .before .before .args .tag) _ (hold .hold .ensures) _ _ _ (leaf .leaf .given .1) (held .ensures .0) (held .ensures .1)
 
 same-length-2 : tie.Need-same-length-2
 same-length-2 c = search needs

@@ -48,7 +48,9 @@ plan-of-requires c κs =
     let e = test1 .if1 .left in
     let ok = read-accepted _ _ _ _ _ _ (reading .read .ensures) e in
     let l = reading .read .ensures .accepted e in
-    (ok .0, (some-root _ (ok .0) _ (l .traced .nodes) (test2 .if2 .left), (sizes-listed _ _ _ _ _ l (reading .read .kept .1 .1 .1 .1 .0), (roots-lead _ _ _ _ (l .traced) (test2 .if2 .left), (reading .read .kept .1 .1 .0, (ok .1, l .traced .nodes))))))
+    let sized = sizes-listed _ _ _ _ _ l (reading .read .kept .1 .1 .1 .1 .0) in
+    let led = roots-lead _ _ _ _ (l .traced) (test2 .if2 .left) in
+    (ok .0, (some-root _ (ok .0) _ (l .traced .nodes) (test2 .if2 .left), (sized, (led, (reading .read .kept .1 .1 .0, (ok .1, l .traced .nodes))))))
 
 same-length : tie.Need-same-length
 same-length c = search needs

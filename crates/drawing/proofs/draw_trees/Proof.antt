@@ -38,7 +38,8 @@ prepare-requires c κs =
     let test = c .before .before .before in
     let l = test .before in
     let s = l .before .before .before .before .before .before .before in
-    (s .pre .0, (stack-chained _ (s .pre .0) (s .pre .1 .0) (l .loop .inv .1 .1) (omega (arith, test .loop-test .taken)) _ (s .pre .1 .1 .1 .0), (s .pre .1 .1 .0, (l .loop .inv .0, l .loop .inv .1 .0))))
+    let chained = stack-chained _ (s .pre .0) (s .pre .1 .0) (l .loop .inv .1 .1) (omega (arith, test .loop-test .taken)) _ (s .pre .1 .1 .1 .0) in
+    (s .pre .0, (chained, (s .pre .1 .1 .0, (l .loop .inv .0, l .loop .inv .1 .0))))
 
 most-requires : tie.Need-most-requires Inv-loop μ-loop
 most-requires c κs = tt

@@ -18,8 +18,11 @@ overlap-requires-2 : tie.Need-overlap-requires-2
 overlap-requires-2 c κs = search needs
 
 returns-2 : tie.Need-returns-2
-returns-2 c = let d = c .before .before in
-    answer false (and-stop _ (not-true (c .before .overlap2 .result) (c .if2 .taken)) (and-skip (not-false (d .before .overlap .result) (d .if1 .left)) (meets-by _ _ _ _ (d .before .overlap .ensures) (c .before .overlap2 .ensures) refl refl)))
+returns-2 c =
+    let d = c .before .before in
+    let rows = not-false (d .before .overlap .result) (d .if1 .left) in
+    let columns = not-true (c .before .overlap2 .result) (c .if2 .taken) in
+    answer false (and-stop _ columns (and-skip rows (meets-by _ _ _ _ (d .before .overlap .ensures) (c .before .overlap2 .ensures) refl refl)))
     (meets-decides-share _ _ _ _)
 
 astride-requires : tie.Need-astride-requires
@@ -33,14 +36,19 @@ returns-3 c =
     let a = c .before in
     let e = a .before .before in
     let d = e .before .before in
-    answer (c .astride2 .result) (and-skip (a .if3 .taken) (and-skip (not-false (e .before .overlap2 .result) (e .if2 .left)) (and-skip (not-false (d .before .overlap .result) (d .if1 .left))
-    (meets-by _ _ _ _ (d .before .overlap .ensures) (e .before .overlap2 .ensures) (a .before .astride .ensures) (c .astride2 .ensures))))) (meets-decides-share _ _ _ _)
+    let rows = not-false (d .before .overlap .result) (d .if1 .left) in
+    let columns = not-false (e .before .overlap2 .result) (e .if2 .left) in
+    answer (c .astride2 .result) (and-skip (a .if3 .taken) (and-skip columns (and-skip rows
+    (meets-by _ _ _ _ (d .before .overlap .ensures) (e .before .overlap2 .ensures) (a .before .astride .ensures) (c .astride2 .ensures)))))
+    (meets-decides-share _ _ _ _)
 
 returns-4 : tie.Need-returns-4
 returns-4 c =
     let e = c .before .before in
     let d = e .before .before in
-    answer (c .before .astride .result) (c .if3 .left ∙ and-stop _ (c .if3 .left) (and-skip (not-false (e .before .overlap2 .result) (e .if2 .left)) (and-skip (not-false (d .before .overlap .result) (d .if1 .left))
+    let rows = not-false (d .before .overlap .result) (d .if1 .left) in
+    let columns = not-false (e .before .overlap2 .result) (e .if2 .left) in
+    answer (c .before .astride .result) (c .if3 .left ∙ and-stop _ (c .if3 .left) (and-skip columns (and-skip rows
     (meets-by _ _ _ _ (d .before .overlap .ensures) (e .before .overlap2 .ensures) (c .before .astride .ensures) refl)))) (meets-decides-share _ _ _ _)
 
 pub meets-spec : {M : Type 1} → statement M

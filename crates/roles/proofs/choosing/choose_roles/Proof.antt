@@ -90,8 +90,10 @@ returns : tie.Need-returns Inv-loop μ-loop
 returns c =
     let first = c .before .before in
     let begun = first .before .before .before .before .before .before in
+    let knee = first .before .knee-on in
     sym (with-none (begun .args .table .now) _ _ _ _ _ (c .loop-test .left))
-    ∙ (c .before .loop .inv .1 .1 ∙ sym (with-first _ _ _ _ _ _ (first .before .before .fork-at .ensures) (first .before .knee-on .result) (first .before .knee-on .ensures) _ (first .number-of .ensures) _))
+    ∙ c .before .loop .inv .1 .1
+    ∙ sym (with-first _ _ _ _ _ _ (first .before .before .fork-at .ensures) (knee .result) (knee .ensures) _ (first .number-of .ensures) _)
 
 pub choose-roles-spec : {M : Type 1} → statement M
 choose-roles-spec =

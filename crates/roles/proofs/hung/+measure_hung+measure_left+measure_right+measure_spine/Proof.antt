@@ -201,24 +201,31 @@ spine-measure-hung-requires t c κs =
 spine-past-requires : (t : ℕ) → spine-lts.Need-past-requires (spine-calls t) (spine-at t) spine.Post Inv-loop μ-loop
 spine-past-requires t c κs =
     let m = c .before .before .before .before in
-    omega (arith, measured-small _ (begun t (m .before .before .before .before .before .before .before .before .before) .pre .1 .0) (m .before .before .before .before .before .before .fork-at .ensures .named-hung) (m .measure-hung .ensures))
+    let fork = m .before .before .before .before .before .before in
+    let s = begun t (fork .before .before .before) in
+    omega (arith, measured-small _ (s .pre .1 .0) (fork .fork-at .ensures .named-hung) (m .measure-hung .ensures))
 
 spine-loop-less : (t : ℕ) → spine-lts.Need-loop-less (spine-calls t) (spine-at t) spine.Post Inv-loop μ-loop
 spine-loop-less t c =
-    let m = c .before .before .before .before .before in
-    omega (arith, ap (λ (k : ℕ). size (treeAt (begun t (m .before .before .before .before .before .before .before .before .before) .args .table .now) k)) (c .past .ensures .at), m .before .before .before .before .before .before .fork-at .ensures .sizes)
+    let fork = c .before .before .before .before .before .before .before .before .before .before .before in
+    let s = begun t (fork .before .before .before) in
+    omega (arith, ap (λ (k : ℕ). size (treeAt (s .args .table .now) k)) (c .past .ensures .at), fork .fork-at .ensures .sizes)
 
 spine-loop-again : (t : ℕ) → spine-lts.Need-loop-again (spine-calls t) (spine-at t) spine.Post Inv-loop μ-loop
 spine-loop-again t c =
     let m = c .before .before .before .before .before in
-    let l = m .before .before .before .before .before .before .before .before .before in
-    step _ (begun t l .pre .1 .0) _ _ (l .loop .inv) (m .before .before .before .before .before .before .fork-at .ensures) _ (m .before .before .before .before .role-at .ensures) _ (m .before .is-right .ensures) _ _ _ (m .measure-hung .kept .1 .1 .0) (m .measure-hung .kept .1 .1 .1 .0) (m .measure-hung .ensures) _ (c .past .ensures)
+    let role = m .before .before .before .before in
+    let fork = role .before .before in
+    let l = fork .before .before .before in
+    let hung = m .measure-hung in
+    step _ (begun t l .pre .1 .0) _ _ (l .loop .inv) (fork .fork-at .ensures) _ (role .role-at .ensures) _ (m .before .is-right .ensures)
+    _ _ _ (hung .kept .1 .1 .0) (hung .kept .1 .1 .1 .0) (hung .ensures) _ (c .past .ensures)
 
 spine-cast-widest : (t : ℕ) → spine-lts.Need-cast-widest (spine-calls t) (spine-at t) spine.Post Inv-loop μ-loop
 spine-cast-widest t c =
     let l = c .before .before .before in
     let p = begun t l .pre .1 in
-    omega (arith, widest-small _ (p .0) _ _ (p .1 .0) (l .loop .inv .surveying))
+    omega (arith, widest-small _ (p .0) _ _ (l .loop .inv .surveying) (p .1 .0))
 
 spine-mul-widest : (t : ℕ) → spine-lts.Need-mul-widest (spine-calls t) (spine-at t) spine.Post Inv-loop μ-loop
 spine-mul-widest t c =
@@ -235,7 +242,7 @@ spine-width-of-requires : (t : ℕ) → spine-lts.Need-width-of-requires (spine-
 spine-width-of-requires t c κs =
     let l = c .before .before .before in
     let p = begun t l .pre .1 in
-    omega (arith, widest-small _ (p .0) _ _ (p .1 .0) (l .loop .inv .surveying))
+    omega (arith, widest-small _ (p .0) _ _ (l .loop .inv .surveying) (p .1 .0))
 
 spine-same-length : (t : ℕ) → spine-lts.Need-same-length (spine-calls t) (spine-at t) spine.Post Inv-loop μ-loop
 spine-same-length t c =
@@ -251,7 +258,7 @@ spine-returns : (t : ℕ) → spine-lts.Need-returns (spine-calls t) (spine-at t
 spine-returns t c =
     let l = c .before .before .before .before in
     let p = begun t l .pre .1 in
-    measured _ (p .0) _ _ (p .1 .0) (l .loop .inv .surveying) _ (l .before .before .before .choose-roles .ensures) (l .loop .inv .long-widest) (c .before .before .if1 .left) _ (c .width-of .ensures)
+    measured _ (p .0) _ _ (l .loop .inv .surveying) (p .1 .0) _ (l .before .before .before .choose-roles .ensures) (l .loop .inv .long-widest) (c .before .before .if1 .left) _ (c .width-of .ensures)
 
 pub +measure-hung+measure-left+measure-right+measure-spine-spec : {M : Type 1} → statement M
 +measure-hung+measure-left+measure-right+measure-spine-spec =

@@ -46,8 +46,12 @@ compare-apart-requires : tie.Need-compare-apart-requires
 compare-apart-requires c κs =
     let s₃ = c .before .before in
     let s₂ = s₃ .before .before in
-    let s₁ = s₂ .before .before in
-    (fails (s₁ .if1 .left) (s₁ .before .same .ensures), fails (s₂ .if2 .left) (s₂ .before .same2 .ensures), fails (s₃ .if3 .left) (s₃ .before .same3 .ensures), fails (c .if4 .left) (c .before .same4 .ensures))
+    let s₁ = s₂ .before .before in (
+      fails (s₁ .if1 .left) (s₁ .before .same .ensures),
+      fails (s₂ .if2 .left) (s₂ .before .same2 .ensures),
+      fails (s₃ .if3 .left) (s₃ .before .same3 .ensures),
+      fails (c .if4 .left) (c .before .same4 .ensures),
+    )
 
 returns-5 : tie.Need-returns-5
 returns-5 c = c .compare-apart .ensures

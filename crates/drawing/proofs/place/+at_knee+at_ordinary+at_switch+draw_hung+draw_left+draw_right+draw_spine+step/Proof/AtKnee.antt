@@ -30,11 +30,12 @@ module _ (t : ℕ) where
   draw-hung-requires c κs =
       let most = c .before .before .before in
       let point = most .before .before .before in
-      let s = point .before .before .before .before .before .before .before in (
+      let s = point .before .before .before .before .before .before .before in
+      let far = sym (c .before .before .is-far .ensures) ∙ c .before .if1 .taken in (
         omega (arith, s .pre .0, s .pre .1 .1 .1 .sizes),
         (
           given-kept _ _ _ _ _ _ (point .set-point .kept .0) (s .pre .1 .0),
-          drawable-as _ _ _ _ _ _ _ _ _ (ap (λ (n : ℕ). n + 1) (most .most .ensures)) (drawable-far _ _ _ _ _ _ _ (s .pre .1 .1 .1) (sym (c .before .before .is-far .ensures) ∙ c .before .if1 .taken) (s .pre .1 .1 .0)),
+          drawable-as _ _ _ _ _ _ _ _ _ (ap (λ (n : ℕ). n + 1) (most .most .ensures)) (drawable-far _ _ _ _ _ _ _ (s .pre .1 .1 .1) far (s .pre .1 .1 .0)),
         ),
       )
 
@@ -55,7 +56,8 @@ module _ (t : ℕ) where
       let most = far .before in
       let point = most .before .before .before in
       let s = point .before .before .before .before .before .before .before in
-      after-far _ _ _ _ _ _ _ (s .pre .1 .1 .1) _ _ _ _ _ _ (most .most .ensures) (point .set-point .ensures) (hung .draw-hung .ensures) (c .onward .ensures) (sym (far .is-far .ensures) ∙ test1 .if1 .taken) (s .pre .1 .1 .0)
+      after-far _ _ _ _ _ _ _ (s .pre .1 .1 .1) _ _ _ _ _ _ (most .most .ensures) (point .set-point .ensures) (hung .draw-hung .ensures) (c .onward .ensures)
+      (sym (far .is-far .ensures) ∙ test1 .if1 .taken) (s .pre .1 .1 .0)
 
   onward-requires-2 : lts.Need-onward-requires-2 (at-knee-claims t) (at-knee-at t) reads.Post
   onward-requires-2 c κs = tt
@@ -68,7 +70,8 @@ module _ (t : ℕ) where
       let most = c .before .before .before in
       let point = most .before .before .before in
       let s = point .before .before .before .before .before .before .before in
-      after-near _ _ _ _ _ _ _ (s .pre .1 .1 .1) _ _ _ _ (most .most .ensures) (point .set-point .ensures) (c .onward2 .ensures) (sym (c .before .before .is-far .ensures) ∙ c .before .if1 .left) (s .pre .1 .1 .0)
+      after-near _ _ _ _ _ _ _ (s .pre .1 .1 .1) _ _ _ _ (most .most .ensures) (point .set-point .ensures) (c .onward2 .ensures)
+      (sym (c .before .before .is-far .ensures) ∙ c .before .if1 .left) (s .pre .1 .1 .0)
 
 pub at-knee-closed : {M : Type 1} (t : ℕ) → lts.Closed (at-knee-claims t) (at-knee-at t) reads.Post M
 at-knee-closed t =

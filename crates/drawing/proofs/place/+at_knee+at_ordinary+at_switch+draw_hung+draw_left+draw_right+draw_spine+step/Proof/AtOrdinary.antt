@@ -47,7 +47,8 @@ module _ (t : ℕ) where
       let point = hung .before .before .before .before .before in
       let in1 = point .before in
       let s = in1 .before .before .before .before .before .before .before in
-      after-ordinary _ _ _ _ _ _ _ (s .pre .1 .1 .1) _ _ _ _ _ _ _ (in1 .inwards .ensures .0) (point .set-point .ensures) (hung .draw-hung .ensures) (c .before .most .ensures) (c .onward .ensures) (s .pre .1 .1 .0)
+      after-ordinary _ _ _ _ _ _ _ (s .pre .1 .1 .1) _ _ _ _ _ _ _ (in1 .inwards .ensures .0) (point .set-point .ensures) (hung .draw-hung .ensures)
+      (c .before .most .ensures) (c .onward .ensures) (s .pre .1 .1 .0)
 
 pub at-ordinary-closed : {M : Type 1} (t : ℕ) → lts.Closed (at-ordinary-claims t) (at-ordinary-at t) reads.Post M
 at-ordinary-closed t =

@@ -4,7 +4,8 @@ use Prim.Native.Nat.{ℕ, _+_}
 use borrow.Author.Needs.{needs}
 use native.Mathlib.Omega.{arith}
 use Rattle.roles.proofs.Forks.{named-within}
-use Rattle.drawing.proofs.Walking.{entry-within, given-kept, drawable-as, column-switch, widest-at-switch, rows-at-switch, drawable-switch, drawable-pending, next-role, next-below, after-switch}
+use Rattle.drawing.proofs.Walking.{entry-within, given-kept, drawable-as, column-switch, widest-at-switch, rows-at-switch}
+use Rattle.drawing.proofs.Walking.{drawable-switch, drawable-pending, next-role, next-below, after-switch}
 use Rattle.drawing.proofs.place.at_switch.Reads as reads
 use Rattle.drawing.proofs.place.+at_knee+at_ordinary+at_switch+draw_hung+draw_left+draw_right+draw_spine+step.Lts-at_switch as lts
 use Rattle.drawing.proofs.place.+at_knee+at_ordinary+at_switch+draw_hung+draw_left+draw_right+draw_spine+step.Proof.Measures.{at-switch-claims, at-switch-at}
@@ -75,7 +76,8 @@ module _ (t : ℕ) where
       let point = hung .before .before .before .before .before in
       let in1 = point .before in
       let s = in1 .before .before .before .before .before .before .before in
-      after-switch _ _ _ _ _ _ _ (s .pre .1 .1 .1) _ _ _ _ _ _ _ _ _ (in1 .inwards .ensures .0) (point .set-point .ensures) (hung .draw-hung .ensures) (pending .draw-hung2 .ensures) (c .before .inwards2 .ensures .0)
+      after-switch _ _ _ _ _ _ _ (s .pre .1 .1 .1) _ _ _ _ _ _ _ _ _ (in1 .inwards .ensures .0) (point .set-point .ensures)
+      (hung .draw-hung .ensures) (pending .draw-hung2 .ensures) (c .before .inwards2 .ensures .0)
       (c .is-right-at .ensures _ _ (next-role _ _ _ _ _ _ _ (s .pre .1 .1 .1) (s .pre .1 .0 .sound) (s .pre .1 .1 .0))) (s .pre .1 .1 .0)
 
 pub at-switch-closed : {M : Type 1} (t : ℕ) → lts.Closed (at-switch-claims t) (at-switch-at t) reads.Post M

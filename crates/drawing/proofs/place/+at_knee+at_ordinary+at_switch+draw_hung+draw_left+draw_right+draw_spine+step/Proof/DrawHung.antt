@@ -4,14 +4,14 @@ use Prim.Native.Nat.{ℕ}
 use borrow.Author.Needs.{needs}
 use native.Mathlib.Omega.{arith}
 use native.Mathlib.Nat.{pos-of-ne-zero}
-use Rattle.drawing.proofs.Starting.{nothing-drawn, column-drawn, drawable-side, drawn-side}
+use Rattle.drawing.proofs.Starting.{no-subtree, column-drawn, drawable-side, drawn-side}
 use Rattle.drawing.proofs.place.draw_hung.Reads as reads
 use Rattle.drawing.proofs.place.+at_knee+at_ordinary+at_switch+draw_hung+draw_left+draw_right+draw_spine+step.Lts-draw_hung as lts
 use Rattle.drawing.proofs.place.+at_knee+at_ordinary+at_switch+draw_hung+draw_left+draw_right+draw_spine+step.Proof.Measures.{draw-hung-claims, draw-hung-at}
 
 module _ (t : ℕ) where
   returns : lts.Need-returns (draw-hung-claims t) (draw-hung-at t) reads.Post
-  returns c = nothing-drawn _ _ _ _ _ _ (c .if1 .taken)
+  returns c = no-subtree _ _ _ _ _ _ (c .if1 .taken)
 
   inwards-requires : lts.Need-inwards-requires (draw-hung-claims t) (draw-hung-at t) reads.Post
   inwards-requires c κs =
@@ -22,13 +22,15 @@ module _ (t : ℕ) where
   draw-right-requires c κs =
       let test1 = c .before .before .before in
       let s = test1 .before .before .before .before .before .before in
-      (omega (arith, s .pre .0), (s .pre .1 .0, (drawable-side _ _ _ _ true _ _ _ _ _ (c .before .if2 .taken) (c .before .before .inwards .ensures .0) (s .pre .1 .1), pos-of-ne-zero (test1 .if1 .left))))
+      let ready = drawable-side _ _ _ _ true _ _ _ _ _ (c .before .if2 .taken) (c .before .before .inwards .ensures .0) (s .pre .1 .1) in
+      (omega (arith, s .pre .0), (s .pre .1 .0, (ready, pos-of-ne-zero (test1 .if1 .left))))
 
   draw-left-requires : lts.Need-draw-left-requires (draw-hung-claims t) (draw-hung-at t) reads.Post
   draw-left-requires c κs =
       let test1 = c .before .before .before in
       let s = test1 .before .before .before .before .before .before in
-      (omega (arith, s .pre .0), (s .pre .1 .0, (drawable-side _ _ _ _ false _ _ _ _ _ (c .before .if2 .left) (c .before .before .inwards .ensures .0) (s .pre .1 .1), pos-of-ne-zero (test1 .if1 .left))))
+      let ready = drawable-side _ _ _ _ false _ _ _ _ _ (c .before .if2 .left) (c .before .before .inwards .ensures .0) (s .pre .1 .1) in
+      (omega (arith, s .pre .0), (s .pre .1 .0, (ready, pos-of-ne-zero (test1 .if1 .left))))
 
   same-length : lts.Need-same-length (draw-hung-claims t) (draw-hung-at t) reads.Post
   same-length c = search needs

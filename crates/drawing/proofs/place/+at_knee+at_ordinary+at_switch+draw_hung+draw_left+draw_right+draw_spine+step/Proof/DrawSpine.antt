@@ -21,7 +21,10 @@ module _ (t : ℕ) where
   is-right-at-requires : lts.Need-is-right-at-requires (draw-spine-claims t) (draw-spine-at t) reads.Post Inv-loop μ-loop
   is-right-at-requires c κs =
       let s = c .before .before .before .before .before in
-      (omega (arith, named-within _ (s .pre .1 .0 .sound) _ (s .pre .1 .1 .0 .named), s .pre .1 .0 .long-roles), root-below _ _ _ (s .pre .1 .0 .sound) (s .args .mirrored) _ _ _ (s .pre .1 .1 .0) (s .pre .1 .1 .1))
+      let given = s .pre .1 .0 in (
+        omega (arith, named-within _ (given .sound) _ (s .pre .1 .1 .0 .named), given .long-roles),
+        root-below _ _ _ (given .sound) (s .args .mirrored) _ _ _ (s .pre .1 .1 .0) (s .pre .1 .1 .1),
+      )
 
   mul-t13 : lts.Need-mul-t13 (draw-spine-claims t) (draw-spine-at t) reads.Post Inv-loop μ-loop
   mul-t13 c =
@@ -41,7 +44,10 @@ module _ (t : ℕ) where
   loop-holds : lts.Need-loop-holds (draw-spine-claims t) (draw-spine-at t) reads.Post Inv-loop μ-loop
   loop-holds c =
       let s = c .before .before .before .before .before .before .before in
-      walked-start _ _ _ (s .pre .1 .0 .sound) _ _ (going-start _ _ _ (s .pre .1 .0 .sound) (s .args .mirrored) _ _ _ (s .pre .1 .1 .0) (s .pre .1 .1 .1) (c .before .is-right-at .result) (c .before .is-right-at .ensures)) (s .pre .1 .1 .1) refl
+      let sound = s .pre .1 .0 .sound in
+      let hand = c .before .is-right-at in
+      walked-start _ _ _ sound _ _
+      (going-start _ _ _ sound (s .args .mirrored) _ _ _ (s .pre .1 .1 .0) (s .pre .1 .1 .1) (hand .result) (hand .ensures)) (s .pre .1 .1 .1) refl
 
   step-requires : lts.Need-step-requires (draw-spine-claims t) (draw-spine-at t) reads.Post Inv-loop μ-loop
   step-requires c κs =
@@ -69,8 +75,10 @@ module _ (t : ℕ) where
   draw-hung-requires c κs =
       let head = c .before .before .before .before in
       let s = head .before .before .before .before .before .before .before .before in
-      let l = head .loop .inv in
-      (omega (arith, s .pre .0, l .one-less, size-none (s .args .table .now)), (given-kept _ _ _ _ _ _ (l .kept) (s .pre .1 .0), drawable-end _ _ _ _ (c .before .before .if1 .left) _ (l .going)))
+      let l = head .loop .inv in (
+        omega (arith, s .pre .0, l .one-less, size-none (s .args .table .now)),
+        (given-kept _ _ _ _ _ _ (l .kept) (s .pre .1 .0), drawable-end _ _ _ _ (c .before .before .if1 .left) _ (l .going)),
+      )
 
   same-length : lts.Need-same-length (draw-spine-claims t) (draw-spine-at t) reads.Post Inv-loop μ-loop
   same-length c =
@@ -82,7 +90,8 @@ module _ (t : ℕ) where
       let test1 = c .before .before .before .before .before in
       let head = test1 .before .before in
       let s = head .before .before .before .before .before .before .before .before in
-      drawn-start _ _ _ (s .pre .1 .0 .sound) (s .args .mirrored) _ _ _ (s .pre .1 .1 .0) (s .pre .1 .1 .1) (head .before .before .is-right-at .result) (head .before .before .is-right-at .ensures) _ _ _
+      let hand = head .before .before .is-right-at in
+      drawn-start _ _ _ (s .pre .1 .0 .sound) (s .args .mirrored) _ _ _ (s .pre .1 .1 .0) (s .pre .1 .1 .1) (hand .result) (hand .ensures) _ _ _
       (walked-end _ _ _ _ _ _ _ _ _ (head .loop .inv) (test1 .if1 .left) (c .before .before .draw-hung .ensures))
 
 pub draw-spine-closed : {M : Type 1} (t : ℕ) → lts.Closed (draw-spine-claims t) (draw-spine-at t) reads.Post M

@@ -112,10 +112,32 @@ abbrev pub step-below : ℕ → In 5 step-kinds.ps
 step-below t = and 5 step-kinds.ps (falls 5 step-kinds.ps _<_ μ-step t) step.Pre
 
 abbrev pub at-knee-claims : ℕ → at-knee-lts.Claims
-at-knee-claims t = (set-point-reads.Asked, set-point-reads.Learnt, most-reads.Asked, most-reads.Learnt, is-far-reads.Asked, is-far-reads.Learnt, draw-hung-below t, draw-hung.Post, onward-reads.Asked, onward-reads.Learnt)
+at-knee-claims t = (
+  set-point-reads.Asked,
+  set-point-reads.Learnt,
+  most-reads.Asked,
+  most-reads.Learnt,
+  is-far-reads.Asked,
+  is-far-reads.Learnt,
+  draw-hung-below t,
+  draw-hung.Post,
+  onward-reads.Asked,
+  onward-reads.Learnt,
+)
 
 abbrev pub at-ordinary-claims : ℕ → at-ordinary-lts.Claims
-at-ordinary-claims t = (inwards-reads.Asked, inwards-reads.Learnt, set-point-reads.Asked, set-point-reads.Learnt, draw-hung-below t, draw-hung.Post, most-reads.Asked, most-reads.Learnt, onward-reads.Asked, onward-reads.Learnt)
+at-ordinary-claims t = (
+  inwards-reads.Asked,
+  inwards-reads.Learnt,
+  set-point-reads.Asked,
+  set-point-reads.Learnt,
+  draw-hung-below t,
+  draw-hung.Post,
+  most-reads.Asked,
+  most-reads.Learnt,
+  onward-reads.Asked,
+  onward-reads.Learnt,
+)
 
 abbrev pub at-switch-claims : ℕ → at-switch-lts.Claims
 at-switch-claims t = (inwards-reads.Asked, inwards-reads.Learnt, set-point-reads.Asked, set-point-reads.Learnt, draw-hung-below t, draw-hung.Post, is-right-at-reads.Asked, is-right-at-reads.Learnt)
@@ -133,4 +155,19 @@ abbrev pub draw-spine-claims : ℕ → draw-spine-lts.Claims
 draw-spine-claims t = (is-right-at-reads.Asked, is-right-at-reads.Learnt, step-below t, step.Post, draw-hung-below t, draw-hung.Post)
 
 abbrev pub step-claims : ℕ → step-lts.Claims
-step-claims t = (fork-at-reads.Asked, fork-at-reads.Learnt, role-at-reads.Asked, role-at-reads.Learnt, is-knee-reads.Asked, is-knee-reads.Learnt, at-knee-below t, at-knee.Post, is-switch-reads.Asked, is-switch-reads.Learnt, at-switch-below t, at-switch.Post, at-ordinary-below t, at-ordinary.Post)
+step-claims t = (
+  fork-at-reads.Asked,
+  fork-at-reads.Learnt,
+  role-at-reads.Asked,
+  role-at-reads.Learnt,
+  is-knee-reads.Asked,
+  is-knee-reads.Learnt,
+  at-knee-below t,
+  at-knee.Post,
+  is-switch-reads.Asked,
+  is-switch-reads.Learnt,
+  at-switch-below t,
+  at-switch.Post,
+  at-ordinary-below t,
+  at-ordinary.Post,
+)

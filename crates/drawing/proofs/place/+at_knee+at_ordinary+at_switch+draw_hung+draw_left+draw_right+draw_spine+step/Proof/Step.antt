@@ -33,16 +33,10 @@ module _ (t : ℕ) where
   at-knee-requires c κs =
       let role = c .before .before .before in
       let fork = role .before in
-      let s = fork .before .before .before .before .before .before in (
-        omega (arith, s .pre .0),
-        (
-          s .pre .1 .0,
-          (
-            going-as _ _ _ _ _ _ _ (fork .fork-at .ensures) (role .role-at .result) knee (role .role-at .ensures) (knee-is (roleOf (role .role-at .result)) (sym (c .before .before .is-knee .ensures) ∙ c .before .if1 .taken)) (s .pre .1 .1 .0),
-            fork .fork-at .ensures,
-          ),
-        ),
-      )
+      let s = fork .before .before .before .before .before .before in
+      let is = knee-is (roleOf (role .role-at .result)) (sym (c .before .before .is-knee .ensures) ∙ c .before .if1 .taken) in
+      let going = going-as _ _ _ _ _ _ _ (fork .fork-at .ensures) (role .role-at .result) knee (role .role-at .ensures) is (s .pre .1 .1 .0) in
+      (omega (arith, s .pre .0), (s .pre .1 .0, (going, fork .fork-at .ensures)))
 
   same-length : lts.Need-same-length (step-claims t) (step-at t) reads.Post
   same-length c = search needs
@@ -53,7 +47,8 @@ module _ (t : ℕ) where
       let knee1 = test1 .before in
       let role = knee1 .before in
       let fork = role .before in
-      stepped-for _ _ _ _ _ _ _ (fork .fork-at .ensures) (role .role-at .result) knee (role .role-at .ensures) (knee-is (roleOf (role .role-at .result)) (sym (knee1 .is-knee .ensures) ∙ test1 .if1 .taken)) _ _ _ (c .before .before .at-knee .ensures)
+      let is = knee-is (roleOf (role .role-at .result)) (sym (knee1 .is-knee .ensures) ∙ test1 .if1 .taken) in
+      stepped-for _ _ _ _ _ _ _ (fork .fork-at .ensures) (role .role-at .result) knee (role .role-at .ensures) is _ _ _ (c .before .before .at-knee .ensures)
 
   is-switch-requires : lts.Need-is-switch-requires (step-claims t) (step-at t) reads.Post
   is-switch-requires c κs = tt
@@ -62,16 +57,10 @@ module _ (t : ℕ) where
   at-switch-requires c κs =
       let role = c .before .before .before .before .before in
       let fork = role .before in
-      let s = fork .before .before .before .before .before .before in (
-        omega (arith, s .pre .0),
-        (
-          s .pre .1 .0,
-          (
-            going-as _ _ _ _ _ _ _ (fork .fork-at .ensures) (role .role-at .result) switch (role .role-at .ensures) (switch-is (roleOf (role .role-at .result)) (sym (c .before .before .is-switch .ensures) ∙ c .before .if2 .taken)) (s .pre .1 .1 .0),
-            fork .fork-at .ensures,
-          ),
-        ),
-      )
+      let s = fork .before .before .before .before .before .before in
+      let is = switch-is (roleOf (role .role-at .result)) (sym (c .before .before .is-switch .ensures) ∙ c .before .if2 .taken) in
+      let going = going-as _ _ _ _ _ _ _ (fork .fork-at .ensures) (role .role-at .result) switch (role .role-at .ensures) is (s .pre .1 .1 .0) in
+      (omega (arith, s .pre .0), (s .pre .1 .0, (going, fork .fork-at .ensures)))
 
   same-length-2 : lts.Need-same-length-2 (step-claims t) (step-at t) reads.Post
   same-length-2 c = search needs
@@ -82,7 +71,8 @@ module _ (t : ℕ) where
       let switch1 = test2 .before in
       let role = switch1 .before .before .before in
       let fork = role .before in
-      stepped-for _ _ _ _ _ _ _ (fork .fork-at .ensures) (role .role-at .result) switch (role .role-at .ensures) (switch-is (roleOf (role .role-at .result)) (sym (switch1 .is-switch .ensures) ∙ test2 .if2 .taken)) _ _ _ (c .before .before .at-switch .ensures)
+      let is = switch-is (roleOf (role .role-at .result)) (sym (switch1 .is-switch .ensures) ∙ test2 .if2 .taken) in
+      stepped-for _ _ _ _ _ _ _ (fork .fork-at .ensures) (role .role-at .result) switch (role .role-at .ensures) is _ _ _ (c .before .before .at-switch .ensures)
 
   at-ordinary-requires : lts.Need-at-ordinary-requires (step-claims t) (step-at t) reads.Post
   at-ordinary-requires c κs =
@@ -90,16 +80,10 @@ module _ (t : ℕ) where
       let knee1 = test1 .before in
       let role = knee1 .before in
       let fork = role .before in
-      let s = fork .before .before .before .before .before .before in (
-        omega (arith, s .pre .0),
-        (
-          s .pre .1 .0,
-          (
-            going-as _ _ _ _ _ _ _ (fork .fork-at .ensures) (role .role-at .result) ordinary (role .role-at .ensures) (ordinary-is (roleOf (role .role-at .result)) (sym (knee1 .is-knee .ensures) ∙ test1 .if1 .left) (sym (c .before .before .is-switch .ensures) ∙ c .before .if2 .left)) (s .pre .1 .1 .0),
-            fork .fork-at .ensures,
-          ),
-        ),
-      )
+      let s = fork .before .before .before .before .before .before in
+      let is = ordinary-is (roleOf (role .role-at .result)) (sym (knee1 .is-knee .ensures) ∙ test1 .if1 .left) (sym (c .before .before .is-switch .ensures) ∙ c .before .if2 .left) in
+      let going = going-as _ _ _ _ _ _ _ (fork .fork-at .ensures) (role .role-at .result) ordinary (role .role-at .ensures) is (s .pre .1 .1 .0) in
+      (omega (arith, s .pre .0), (s .pre .1 .0, (going, fork .fork-at .ensures)))
 
   same-length-3 : lts.Need-same-length-3 (step-claims t) (step-at t) reads.Post
   same-length-3 c = search needs
@@ -112,7 +96,8 @@ module _ (t : ℕ) where
       let knee1 = test1 .before in
       let role = knee1 .before in
       let fork = role .before in
-      stepped-for _ _ _ _ _ _ _ (fork .fork-at .ensures) (role .role-at .result) ordinary (role .role-at .ensures) (ordinary-is (roleOf (role .role-at .result)) (sym (knee1 .is-knee .ensures) ∙ test1 .if1 .left) (sym (switch1 .is-switch .ensures) ∙ test2 .if2 .left)) _ _ _ (c .before .before .at-ordinary .ensures)
+      let is = ordinary-is (roleOf (role .role-at .result)) (sym (knee1 .is-knee .ensures) ∙ test1 .if1 .left) (sym (switch1 .is-switch .ensures) ∙ test2 .if2 .left) in
+      stepped-for _ _ _ _ _ _ _ (fork .fork-at .ensures) (role .role-at .result) ordinary (role .role-at .ensures) is _ _ _ (c .before .before .at-ordinary .ensures)
 
 pub step-closed : {M : Type 1} (t : ℕ) → lts.Closed (step-claims t) (step-at t) reads.Post M
 step-closed t =
