@@ -1,8 +1,8 @@
 // Along which axis lines are sorted: by rows, or by columns where they overlap less in these (specs/inner/Arranged).
 use line::HALF;
 use line::end;
+use line::from_ends;
 use line::number;
-use line::pack;
 use line::start;
 use line::widened;
 use segment::Point;
@@ -20,9 +20,9 @@ fn join(p: Point, q: Point) -> u64
     ensures { λ r. ⌜ Joined p q r ⌝ }
 {
     if number(p) <= number(q) {
-        return pack(p, q);
+        return from_ends(p, q);
     }
-    pack(q, p)
+    from_ends(q, p)
 }
 
 // A point, with column and row exchanged or not.

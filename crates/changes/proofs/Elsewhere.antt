@@ -1,5 +1,5 @@
 -- "Records on neither chain are still allowed and never taken": the calls keep all their words, refused or not (`hang-elsewhere`, `held-elsewhere`, `cut-elsewhere`). Rests on Accepted
--- (`table`), Answering and Places (`hanging`), Hanging, Hooked and Cutting.
+-- (`table`), Answering and Places (`hanging`, `cutting`), Hanging, Hooked and Cutting.
 use mathlib.Core.Path.{_≡_, refl, sym}
 use mathlib.Core.Logic.{_≢_, _⊎_, ⊎-elim, ⊎-map}
 use mathlib.Core.List.{List}
@@ -8,9 +8,11 @@ use Rattle.table.specs.Table.{word, Chained, Free}
 use Rattle.table.proofs.Accepted.{first-free}
 use Rattle.hanging.specs.Hanging.{hangRefusal, hung, afterHang}
 use Rattle.hanging.specs.Holding.{afterHeld}
-use Rattle.hanging.specs.Cutting.{namerOf, holder, cutRefusal, cutOut, afterCut}
-use Rattle.hanging.proofs.Answering.{after-hang, after-held, after-cut}
-use Rattle.hanging.proofs.Places.{hang-place, cuttable}
+use Rattle.cutting.specs.Cutting.{namerOf, holder, cutRefusal, cutOut, afterCut}
+use Rattle.hanging.proofs.Answering.{after-hang, after-held}
+use Rattle.cutting.proofs.Answering.{after-cut}
+use Rattle.hanging.proofs.Places.{hang-place}
+use Rattle.cutting.proofs.Places.{cuttable}
 use Rattle.changes.proofs.Hanging.{hung-graft}
 use Rattle.changes.proofs.Hooked.{before-cases, hooked}
 use Rattle.changes.proofs.Cutting.{cut-graft}

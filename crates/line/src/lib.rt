@@ -23,7 +23,7 @@ pub fn number(p: Point) -> u64
 }
 
 // The line from p to q, as a number.
-pub fn pack(p: Point, q: Point) -> u64
+pub fn from_ends(p: Point, q: Point) -> u64
     ensures { λ r. ⌜ (startOf r ≡ p) × (endOf r ≡ q) ⌝ }
 {
     number(q) * HALF + number(p)

@@ -1,4 +1,5 @@
--- "Tables taken before get the plan they had", drawn wide: of a table that was accepted before document 02, Paper 8, the answer is that of one tree (`wide-before`). Rests on that law of tables, on Answered and on the
+-- "Tables taken before get the plan they had", drawn wide: of a table that was accepted before document 02, Paper 8, the answer is that of one tree
+-- (`wide-before`). Rests on that law of tables, on Answered and on the
 -- laws of a single tree (`layout`).
 use mathlib.Core.Path.{_≡_, ap, ap₂, sym, _∙_}
 use mathlib.Core.List.{List, [], _∷_, map}
@@ -31,6 +32,7 @@ module _ (t p : List ℕ) (ok : refusalBefore t (length p) ≡ 0) where
   unfolding wideOf storeAll
   wide-before =
       let a = accepted-before t (length p) ok .0 in (
-        answered-none _ _ a ∙ ap₂ (λ (w h : ℕ). record { number = 0; values = length (chain t) ∷ w ∷ h ∷ [] }) (ap widthOf one-layout ∙ sym (widthOf-one layout)) (ap heightOf one-layout ∙ sym (heightOf-one layout)),
+        answered-none _ _ a ∙ ap₂ (λ (w h : ℕ). record { number = 0; values = length (chain t) ∷ w ∷ h ∷ [] })
+            (ap widthOf one-layout ∙ sym (widthOf-one layout)) (ap heightOf one-layout ∙ sym (heightOf-one layout)),
         wide-placed t p a ∙ ap (λ (Ls : List Layout). storeAll Ls p) one-layout,
       )

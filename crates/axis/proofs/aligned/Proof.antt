@@ -24,7 +24,12 @@ join-requires : tie.Need-join-requires
 join-requires c κs = search needs
 
 returns-2 : tie.Need-returns-2
-returns-2 c = let s = c .before .before .before .before .before .before in joined-by (s .args .across) (s .args .k) (c .before .before .before .before .start .ensures) (c .before .before .end .ensures) (c .before .before .before .viewed .ensures) (c .before .viewed2 .ensures) (c .join .ensures)
+returns-2 c =
+    let v = c .before .before .before in
+    let s2 = v .before in
+    let s = s2 .before .before in
+    joined-by (s .args .across) (s .args .k) (s2 .start .ensures) (c .before .before .end .ensures) (v .viewed .ensures) (c .before .viewed2 .ensures)
+    (c .join .ensures)
 
 pub aligned-spec : {M : Type 1} → statement M
 aligned-spec =

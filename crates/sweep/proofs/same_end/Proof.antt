@@ -43,7 +43,15 @@ loop-less : tie.Need-loop-less Inv-loop μ-loop
 loop-less c = search needs
 
 loop-again : tie.Need-loop-again Inv-loop μ-loop
-loop-again c = let l = c .before .before .before .before .loop in (omega arith, λ a b h k m. next-differs (c .before .before .before .before .before .pre) (l .i) (l .inv .0) (c .before .before .before .loop-test .taken) (λ x y g w. l .inv .1 x y g w (omega arith)) (c .if1 .left) a b h k)
+loop-again c =
+    let l2 = c .before .before .before in
+    let l3 = l2 .before in
+    let s = l3 .before in
+    let l = l3 .loop in (
+      omega arith,
+      λ a b h k m. next-differs (s .pre) (l .i) (l .inv .0) (l2 .loop-test .taken) (λ x y g w. l .inv .1 x y g w (omega arith))
+          (c .if1 .left) a b h k,
+    )
 
 returns-2 : tie.Need-returns-2 Inv-loop μ-loop
 returns-2 c = none (λ z. omega (arith, c .before .loop .inv .1 (z .2 .0) (z .0) (z .2 .1) (omega (arith, z .1)) (z .1), z .2 .2))

@@ -44,7 +44,11 @@ shared-slice-read-before : tie.Need-shared-slice-read-before Inv-loop μ-loop
 shared-slice-read-before c = search needs
 
 returns : tie.Need-returns Inv-loop μ-loop
-returns c = let s = c .before .before .before .before .before .before .before .before .before .before in let l = c .before .before .before .loop in (omega arith, from-ended (s .pre .1 .0) (s .pre .1 .1) (s .pre .0) (omega arith) (c .if1 .taken) (omega arith) (l .inv .1))
+returns c =
+    let l2 = c .before .before .before in
+    let s = l2 .before .before .before .before .before .before .before in
+    let l = l2 .loop in
+    (omega arith, from-ended (s .pre .1 .0) (s .pre .1 .1) (s .pre .0) (omega arith) (c .if1 .taken) (omega arith) (l .inv .1))
 
 start-requires-2 : tie.Need-start-requires-2 Inv-loop μ-loop
 start-requires-2 c κs = search needs
@@ -76,8 +80,12 @@ loop-again : tie.Need-loop-again Inv-loop μ-loop
 loop-again c =
     let e = c .before .before .before in
     let l = e .before .before .before in
-    let f = l .before .before .before in
-    (omega arith, from-more (omega arith) (omega arith) (l .loop .inv .1) (worse-at (c .before .before .start2 .ensures) (c .before .end2 .ensures) (f .before .start .ensures) (f .end .ensures) (c .worse-with .ensures)))
+    let f = l .before .before .before in (
+      omega arith,
+      from-more (omega arith) (omega arith) (l .loop .inv .1)
+          (worse-at (c .before .before .start2 .ensures) (c .before .end2 .ensures) (f .before .start .ensures) (f .end .ensures)
+          (c .worse-with .ensures)),
+    )
 
 returns-2 : tie.Need-returns-2 Inv-loop μ-loop
 returns-2 c = (omega arith, from-first (omega arith) (c .before .loop .inv .1))
