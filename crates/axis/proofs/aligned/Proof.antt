@@ -26,9 +26,9 @@ join-requires c κs = search needs
 returns-2 : tie.Need-returns-2
 returns-2 c =
     let v = c .before .before .before in
-    let s2 = v .before in
-    let s = s2 .before .before in
-    joined-by (s .args .across) (s .args .k) (s2 .start .ensures) (c .before .before .end .ensures) (v .viewed .ensures) (c .before .viewed2 .ensures)
+    let st = v .before in
+    let s = st .before .before in
+    joined-by (s .args .across) (s .args .k) (st .start .ensures) (c .before .before .end .ensures) (v .viewed .ensures) (c .before .viewed2 .ensures)
     (c .join .ensures)
 
 pub aligned-spec : {M : Type 1} → statement M

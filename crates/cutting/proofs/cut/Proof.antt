@@ -41,10 +41,10 @@ same-length-2 c = search needs
 
 returns-2 : tie.Need-returns-2
 returns-2 c =
-    let i = c .before .before .before .before in
-    let i1 = i .before in
+    let ix = c .before .before .before .before in
+    let i1 = ix .before in
     let e = i1 .before .before .before .before in
-    rw (sym (i .index .ensures)) (cut-no-leaf _ _ (sym (e .examine .ensures .refusal) ∙ i1 .if1 .left)
+    rw (sym (ix .index .ensures)) (cut-no-leaf _ _ (sym (e .examine .ensures .refusal) ∙ i1 .if1 .left)
     (sym (c .before .no-leaf .ensures) ∙ c .if2 .taken))
 
 slice-aggregate-cut-leaf : tie.Need-slice-aggregate-cut-leaf
@@ -68,10 +68,10 @@ returns-3 : tie.Need-returns-3
 returns-3 c =
     let i2 = c .before .before .before .before .before in
     let n = i2 .before in
-    let i = n .before .before .before in
-    let i1 = i .before in
+    let ix = n .before .before .before in
+    let i1 = ix .before in
     let e = i1 .before .before .before .before in
-    rw (sym (i .index .ensures)) (cut-done _ _ _ (sym (e .examine .ensures .refusal) ∙ i1 .if1 .left) (sym (n .no-leaf .ensures) ∙ i2 .if2 .left)
+    rw (sym (ix .index .ensures)) (cut-done _ _ _ (sym (e .examine .ensures .refusal) ∙ i1 .if1 .left) (sym (n .no-leaf .ensures) ∙ i2 .if2 .left)
     (c .before .before .cut-leaf .ensures))
 
 pub cut-spec : {M : Type 1} → statement M

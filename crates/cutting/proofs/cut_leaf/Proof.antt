@@ -22,52 +22,52 @@ set-word-requires : tie.Need-set-word-requires
 set-word-requires c κs =
     let n = c .before .before .before in
     let h = n .before .before in
-    let n2 = h .before .before in
-    let s = n2 .before .before .before .before in (
-      (omega (arith, s .pre .1, n2 .namer-of .ensures .1, h .hook-of .ensures .0 .1, records-bounds _ (s .pre .0 .accepted)), omega arith),
+    let na = h .before .before in
+    let s = na .before .before .before .before in (
+      (omega (arith, s .pre .1, na .namer-of .ensures .1, h .hook-of .ensures .0 .1, records-bounds _ (s .pre .0 .accepted)), omega arith),
       omega (arith, n .next .ensures .1, c .before .right .ensures .1, s .pre .1, records-bounds _ (s .pre .0 .accepted)),
     )
 
 set-word-requires-2 : tie.Need-set-word-requires-2
 set-word-requires-2 c κs =
-    let s = c .before .before .before in
-    let r = s .before .before in
+    let w1 = c .before .before .before in
+    let r = w1 .before .before in
     let n = r .before .before in
     let h = n .before .before in
-    let n2 = h .before .before in
-    let s2 = n2 .before .before .before .before in (
+    let na = h .before .before in
+    let s = na .before .before .before .before in (
       (
-        omega (arith, s2 .pre .1, n2 .namer-of .ensures .1, h .hook-of .ensures .0 .1, records-bounds _ (s2 .pre .0 .accepted), s .set-word .kept .0),
+        omega (arith, s .pre .1, na .namer-of .ensures .1, h .hook-of .ensures .0 .1, records-bounds _ (s .pre .0 .accepted), w1 .set-word .kept .0),
         omega (arith, h .hook-of .ensures .1 .1),
       ),
       omega (
         arith,
         n .next .ensures .1,
         r .right .ensures .1,
-        s2 .pre .1,
+        s .pre .1,
         records-bounds _
-            (s2 .pre .0 .accepted),
+            (s .pre .0 .accepted),
       ),
     )
 
 set-word-requires-3 : tie.Need-set-word-requires-3
 set-word-requires-3 c κs =
-    let s = c .before .before .before in
-    let s2 = s .before .before .before .before in
-    let r = s2 .before .before in
+    let w2 = c .before .before .before in
+    let w1 = w2 .before .before .before .before in
+    let r = w1 .before .before in
     let n = r .before .before in
     let h = n .before .before in
-    let n2 = h .before .before in
-    let s3 = n2 .before .before .before .before in (
+    let na = h .before .before in
+    let s = na .before .before .before .before in (
       (
         omega (
           arith,
-          s3 .pre .1,
-          n2 .namer-of .ensures .1,
+          s .pre .1,
+          na .namer-of .ensures .1,
           h .hook-of .ensures .0 .1,
-          records-bounds _ (s3 .pre .0 .accepted),
-          s2 .set-word .kept .0,
-          s .set-word2 .kept .0,
+          records-bounds _ (s .pre .0 .accepted),
+          w1 .set-word .kept .0,
+          w2 .set-word2 .kept .0,
         ),
         omega arith,
       ),
@@ -75,126 +75,126 @@ set-word-requires-3 c κs =
         arith,
         n .next .ensures .1,
         r .right .ensures .1,
-        s3 .pre .1,
+        s .pre .1,
         records-bounds _
-            (s3 .pre .0 .accepted),
+            (s .pre .0 .accepted),
       ),
     )
 
 set-word-requires-4 : tie.Need-set-word-requires-4
 set-word-requires-4 c κs =
-    let s = c .before .before .before in
-    let s2 = s .before .before .before .before in
-    let s3 = s2 .before .before .before .before in
-    let r = s3 .before .before in
+    let w3 = c .before .before .before in
+    let w2 = w3 .before .before .before .before in
+    let w1 = w2 .before .before .before .before in
+    let r = w1 .before .before in
     let n = r .before .before in
     let h = n .before .before in
-    let n2 = h .before .before in
-    let s4 = n2 .before .before .before .before in (
+    let na = h .before .before in
+    let s = na .before .before .before .before in (
       (
         omega (
           arith,
-          s4 .pre .1,
-          n2 .namer-of .ensures .1,
+          s .pre .1,
+          na .namer-of .ensures .1,
           h .hook-of .ensures .0 .1,
-          records-bounds _ (s4 .pre .0 .accepted),
-          s3 .set-word .kept .0,
-          s2 .set-word2 .kept .0,
-          s .set-word3 .kept .0,
+          records-bounds _ (s .pre .0 .accepted),
+          w1 .set-word .kept .0,
+          w2 .set-word2 .kept .0,
+          w3 .set-word3 .kept .0,
         ),
         omega arith,
       ),
-      omega (arith, n .next .ensures .1, r .right .ensures .1, s4 .pre .1, records-bounds _ (s4 .pre .0 .accepted)),
+      omega (arith, n .next .ensures .1, r .right .ensures .1, s .pre .1, records-bounds _ (s .pre .0 .accepted)),
     )
 
 set-word-requires-5 : tie.Need-set-word-requires-5
 set-word-requires-5 c κs =
-    let s = c .before .before .before in
-    let s2 = s .before .before .before .before in
-    let s3 = s2 .before .before .before .before in
-    let s4 = s3 .before .before .before .before in
-    let r = s4 .before .before in
+    let w4 = c .before .before .before in
+    let w3 = w4 .before .before .before .before in
+    let w2 = w3 .before .before .before .before in
+    let w1 = w2 .before .before .before .before in
+    let r = w1 .before .before in
     let n = r .before .before in
     let h = n .before .before in
-    let n2 = h .before .before in
-    let s5 = n2 .before .before .before .before in (
+    let na = h .before .before in
+    let s = na .before .before .before .before in (
       (
         omega (
           arith,
-          s5 .pre .1,
-          n2 .namer-of .ensures .1,
+          s .pre .1,
+          na .namer-of .ensures .1,
           h .hook-of .ensures .0 .1,
-          records-bounds _ (s5 .pre .0 .accepted),
-          s4 .set-word .kept .0,
-          s3 .set-word2 .kept .0,
-          s2 .set-word3 .kept .0,
-          s .set-word4 .kept .0,
+          records-bounds _ (s .pre .0 .accepted),
+          w1 .set-word .kept .0,
+          w2 .set-word2 .kept .0,
+          w3 .set-word3 .kept .0,
+          w4 .set-word4 .kept .0,
         ),
         omega arith,
       ),
-      omega (arith, n .next .ensures .1, r .right .ensures .1, s5 .pre .1, records-bounds _ (s5 .pre .0 .accepted)),
+      omega (arith, n .next .ensures .1, r .right .ensures .1, s .pre .1, records-bounds _ (s .pre .0 .accepted)),
     )
 
 set-word-requires-6 : tie.Need-set-word-requires-6
 set-word-requires-6 c κs =
-    let s = c .before .before .before in
-    let s2 = s .before .before .before .before in
-    let s3 = s2 .before .before .before .before in
-    let s4 = s3 .before .before .before .before in
-    let s5 = s4 .before .before .before .before in
-    let r = s5 .before .before in
+    let w5 = c .before .before .before in
+    let w4 = w5 .before .before .before .before in
+    let w3 = w4 .before .before .before .before in
+    let w2 = w3 .before .before .before .before in
+    let w1 = w2 .before .before .before .before in
+    let r = w1 .before .before in
     let n = r .before .before in
     let h = n .before .before in
-    let n2 = h .before .before in
-    let s6 = n2 .before .before .before .before in (
+    let na = h .before .before in
+    let s = na .before .before .before .before in (
       (
         omega (
           arith,
-          s6 .pre .1,
-          n2 .namer-of .ensures .1,
+          s .pre .1,
+          na .namer-of .ensures .1,
           h .hook-of .ensures .0 .1,
-          records-bounds _ (s6 .pre .0 .accepted),
-          s5 .set-word .kept .0,
-          s4 .set-word2 .kept .0,
-          s3 .set-word3 .kept .0,
-          s2 .set-word4 .kept .0,
-          s .set-word5 .kept .0,
+          records-bounds _ (s .pre .0 .accepted),
+          w1 .set-word .kept .0,
+          w2 .set-word2 .kept .0,
+          w3 .set-word3 .kept .0,
+          w4 .set-word4 .kept .0,
+          w5 .set-word5 .kept .0,
         ),
         omega arith,
       ),
-      omega (arith, n .next .ensures .1, r .right .ensures .1, s6 .pre .1, records-bounds _ (s6 .pre .0 .accepted)),
+      omega (arith, n .next .ensures .1, r .right .ensures .1, s .pre .1, records-bounds _ (s .pre .0 .accepted)),
     )
 
 set-word-requires-7 : tie.Need-set-word-requires-7
 set-word-requires-7 c κs =
-    let s = c .before .before .before in
-    let s2 = s .before .before .before .before in
-    let s3 = s2 .before .before .before .before in
-    let s4 = s3 .before .before .before .before in
-    let s5 = s4 .before .before .before .before in
-    let s6 = s5 .before .before .before .before in
-    let r = s6 .before .before in
+    let w6 = c .before .before .before in
+    let w5 = w6 .before .before .before .before in
+    let w4 = w5 .before .before .before .before in
+    let w3 = w4 .before .before .before .before in
+    let w2 = w3 .before .before .before .before in
+    let w1 = w2 .before .before .before .before in
+    let r = w1 .before .before in
     let n = r .before .before in
     let h = n .before .before in
-    let n2 = h .before .before in
-    let s7 = n2 .before .before .before .before in (
+    let na = h .before .before in
+    let s = na .before .before .before .before in (
       (
         omega (
           arith,
-          s7 .pre .1,
-          n2 .namer-of .ensures .1,
+          s .pre .1,
+          na .namer-of .ensures .1,
           h .hook-of .ensures .0 .1,
-          records-bounds _ (s7 .pre .0 .accepted),
-          s6 .set-word .kept .0,
-          s5 .set-word2 .kept .0,
-          s4 .set-word3 .kept .0,
-          s3 .set-word4 .kept .0,
-          s2 .set-word5 .kept .0,
-          s .set-word6 .kept .0,
+          records-bounds _ (s .pre .0 .accepted),
+          w1 .set-word .kept .0,
+          w2 .set-word2 .kept .0,
+          w3 .set-word3 .kept .0,
+          w4 .set-word4 .kept .0,
+          w5 .set-word5 .kept .0,
+          w6 .set-word6 .kept .0,
         ),
         omega arith,
       ),
-      omega (arith, n .next .ensures .1, r .right .ensures .1, s7 .pre .1, records-bounds _ (s7 .pre .0 .accepted)),
+      omega (arith, n .next .ensures .1, r .right .ensures .1, s .pre .1, records-bounds _ (s .pre .0 .accepted)),
     )
 
 same-length : tie.Need-same-length
@@ -202,19 +202,19 @@ same-length c = search needs
 
 returns : tie.Need-returns
 returns c =
-    let s = c .before .before .before .before .before .before in
-    let s2 = s .before .before .before .before in
-    let s3 = s2 .before .before .before .before in
-    let s4 = s3 .before .before .before .before in
-    let s5 = s4 .before .before .before .before in
-    let s6 = s5 .before .before .before .before in
-    let r = s6 .before .before in
+    let w6 = c .before .before .before .before .before .before in
+    let w5 = w6 .before .before .before .before in
+    let w4 = w5 .before .before .before .before in
+    let w3 = w4 .before .before .before .before in
+    let w2 = w3 .before .before .before .before in
+    let w1 = w2 .before .before .before .before in
+    let r = w1 .before .before in
     let n = r .before .before in
     let h = n .before .before in
-    let n2 = h .before .before in
-    cut-words _ _ _ _ _ _ _ _ _ _ _ _ _ _ (n2 .namer-of .ensures .0) (h .hook-of .ensures .0 .0) (h .hook-of .ensures .1 .0) (n .next .ensures .0)
-    (r .right .ensures .0) (s6 .set-word .ensures) (s5 .set-word2 .ensures) (s4 .set-word3 .ensures) (s3 .set-word4 .ensures)
-    (s2 .set-word5 .ensures) (s .set-word6 .ensures) (c .before .before .set-word7 .ensures)
+    let na = h .before .before in
+    cut-words _ _ _ _ _ _ _ _ _ _ _ _ _ _ (na .namer-of .ensures .0) (h .hook-of .ensures .0 .0) (h .hook-of .ensures .1 .0) (n .next .ensures .0)
+    (r .right .ensures .0) (w1 .set-word .ensures) (w2 .set-word2 .ensures) (w3 .set-word3 .ensures) (w4 .set-word4 .ensures)
+    (w5 .set-word5 .ensures) (w6 .set-word6 .ensures) (c .before .before .set-word7 .ensures)
 
 pub cut-leaf-spec : {M : Type 1} → statement M
 cut-leaf-spec =

@@ -33,21 +33,21 @@ left-requires c κs = search needs
 
 returns-3 : tie.Need-returns-3
 returns-3 c =
-    let n = c .before .before .before in
-    let i1 = n .before in
-    let n2 = i1 .before in
-    let s = n2 .before .before .before in
-    hooked _ 1 _ _ _ _ (hook-own _ _ (sym (n2 .namer-of .ensures .0) ∙ i1 .if1 .left) (s .pre .0 .accepted)
-    (sym (n .namer-of2 .ensures .0) ∙ c .before .before .if2 .left) (λ e. c .if3 .taken (e ∙ sym (c .before .left .ensures .0)))) refl (s .pre .1)
+    let n2 = c .before .before .before in
+    let i1 = n2 .before in
+    let n = i1 .before in
+    let s = n .before .before .before in
+    hooked _ 1 _ _ _ _ (hook-own _ _ (sym (n .namer-of .ensures .0) ∙ i1 .if1 .left) (s .pre .0 .accepted)
+    (sym (n2 .namer-of2 .ensures .0) ∙ c .before .before .if2 .left) (λ e. c .if3 .taken (e ∙ sym (c .before .left .ensures .0)))) refl (s .pre .1)
     (omega arith)
 
 returns-4 : tie.Need-returns-4
 returns-4 c =
-    let n = c .before .before .before in
-    let i1 = n .before in
-    let n2 = i1 .before in
-    let s = n2 .before .before .before in
-    hooked 0 1 0 _ _ _ (hook-head _ _ (sym (n2 .namer-of .ensures .0) ∙ i1 .if1 .left) (sym (n .namer-of2 .ensures .0) ∙ c .before .before .if2 .left)
+    let n2 = c .before .before .before in
+    let i1 = n2 .before in
+    let n = i1 .before in
+    let s = n .before .before .before in
+    hooked 0 1 0 _ _ _ (hook-head _ _ (sym (n .namer-of .ensures .0) ∙ i1 .if1 .left) (sym (n2 .namer-of2 .ensures .0) ∙ c .before .before .if2 .left)
     (c .if3 .left ∙ c .before .left .ensures .0)) refl (omega (arith, records-bounds _ (s .pre .0 .accepted))) (omega arith)
 
 pub hook-of-spec : {M : Type 1} → statement M

@@ -42,13 +42,13 @@ returns-2 c = rw (ne-eqb _ _ (λ e. c .if2 .taken (c .before .left .ensures .0 �
 
 right-requires : tie.Need-right-requires
 right-requires c κs =
-    let c2 = c .before .before .before in
-    let s = c2 .before .before .before in
+    let co = c .before .before .before in
+    let s = co .before .before .before in
     omega (
       arith,
       records-bounds _ (s .pre .accepted) .0,
       chained-below (s .pre) _
-          (T-true _ .1 (sym (on-chain (s .pre) _ (c2 .contains .ensures)) ∙ not-false _ (c .before .before .if1 .left))),
+          (T-true _ .1 (sym (on-chain (s .pre) _ (co .contains .ensures)) ∙ not-false _ (c .before .before .if1 .left))),
     )
 
 returns-3 : tie.Need-returns-3
@@ -73,10 +73,10 @@ returns-4 c =
     let i2 = r .before in
     let l = i2 .before in
     let i1 = l .before in
-    let c2 = i1 .before in
-    let s = c2 .before .before .before in
+    let co = i1 .before in
+    let s = co .before .before .before in
     sym (no-root _ _ (λ e. absurd (c .if4 .taken (e ∙ sym (c .before .left2 .ensures .0))))) ∙
-    sym (childless _ _ (sym (on-chain (s .pre) _ (c2 .contains .ensures)) ∙ not-false _ (i1 .if1 .left))
+    sym (childless _ _ (sym (on-chain (s .pre) _ (co .contains .ensures)) ∙ not-false _ (i1 .if1 .left))
     (sym (l .left .ensures .0) ∙ i2 .if2 .left) (sym (r .right .ensures .0) ∙ c .before .before .if3 .left))
 
 returns-5 : tie.Need-returns-5
@@ -85,10 +85,10 @@ returns-5 c =
     let i2 = r .before in
     let l = i2 .before in
     let i1 = l .before in
-    let c2 = i1 .before in
-    let s = c2 .before .before .before in
+    let co = i1 .before in
+    let s = co .before .before .before in
     alone _ _ _ (c .if4 .left ∙ c .before .left2 .ensures .0) (s .pre .nodes) ∙
-    sym (childless _ _ (sym (on-chain (s .pre) _ (c2 .contains .ensures)) ∙ not-false _ (i1 .if1 .left))
+    sym (childless _ _ (sym (on-chain (s .pre) _ (co .contains .ensures)) ∙ not-false _ (i1 .if1 .left))
     (sym (l .left .ensures .0) ∙ i2 .if2 .left) (sym (r .right .ensures .0) ∙ c .before .before .if3 .left))
 
 pub no-leaf-spec : {M : Type 1} → statement M

@@ -18,8 +18,8 @@ mul-worst-of c = search needs
 
 worst-of-requires : tie.Need-worst-of-requires
 worst-of-requires c κs =
-    let s2 = c .before .before .before .before .before in
-    let s = s2 .settle in
+    let se = c .before .before .before .before .before in
+    let s = se .settle in
     ((omega arith, omega arith), (settled-onward (s .kept .0) (s .ensures), settled-ascends (s .kept .0) (s .ensures)))
 
 same-length : tie.Need-same-length

@@ -11,8 +11,8 @@ settle-requires c κs = search needs
 
 clear-requires : tie.Need-clear-requires
 clear-requires c κs =
-    let s2 = c .before .before .before .before .before .before in
-    let s = s2 .settle in
+    let se = c .before .before .before .before .before .before in
+    let s = se .settle in
     (settled-onward (s .kept .0) (s .ensures), (settled-ascends (s .kept .0) (s .ensures), (omega arith, omega arith)))
 
 same-length : tie.Need-same-length

@@ -35,11 +35,11 @@ same-length-4 c = search needs
 returns-2 : tie.Need-returns-2
 returns-2 c =
     let i1 = c .before .before .before in
-    let s = i1 .before in
-    let s2 = s .before .before .before .before .before .before in
-    let r = s2 .sort in
+    let sa = i1 .before in
+    let so = sa .before .before .before .before .before .before in
+    let r = so .sort in
     first-moved (r .ensures .0) (r .kept .0) (inr (
-      fails (i1 .if1 .left) (s .same-end .ensures),
+      fails (i1 .if1 .left) (sa .same-end .ensures),
       inl
           (holds (c .if2 .taken) (c .before .rises .ensures), refl),
     ))
