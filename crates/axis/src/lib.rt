@@ -1,7 +1,8 @@
 // Along which axis lines are sorted: by rows, or by columns where they overlap less in these (specs/inner/Arranged).
-use line::HALF;
 use line::end;
+use line::first;
 use line::from_ends;
+use line::last;
 use line::number;
 use line::start;
 use line::widened;
@@ -43,7 +44,7 @@ fn aligned(k: u64, across: bool) -> u64
     ensures { λ r. ⌜ Joined (view across (startOf k)) (view across (endOf k)) r ⌝ }
 {
     if !across {
-        if k % HALF <= k / HALF {
+        if first(k) <= last(k) {
             return k;
         }
     }

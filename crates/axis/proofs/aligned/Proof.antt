@@ -1,12 +1,22 @@
 -- `aligned`: as it is, or joined anew. Rests on Arranging.
 use borrow.Author.Tests.{not-true}
+use native.Mathlib.Omega.{arith}
 use Rattle.axis.proofs.Arranging.{joined-same, joined-by}
 use borrow.Author.Needs.{needs}
 use Rattle.axis.proofs.aligned.Statement.{statement}
 use Rattle.axis.proofs.aligned.Tie as tie
 
+first-requires : tie.Need-first-requires
+first-requires c κs = search needs
+
+last-requires : tie.Need-last-requires
+last-requires c κs = search needs
+
 returns : tie.Need-returns
-returns c = let s = c .before .before in joined-same (s .args .across) (s .args .k) (not-true (s .args .across) (c .before .if1 .taken)) (c .if2 .taken)
+returns c =
+    let i1 = c .before .before .before in
+    let s = i1 .before in
+    joined-same (s .args .across) (s .args .k) (not-true (s .args .across) (i1 .if1 .taken)) (omega arith)
 
 start-requires : tie.Need-start-requires
 start-requires c κs = search needs
@@ -35,6 +45,8 @@ pub aligned-spec : {M : Type 1} → statement M
 aligned-spec =
     tie.close
     (tie.spec
+    first-requires
+    last-requires
     returns
     start-requires
     viewed-requires
