@@ -3,7 +3,7 @@ use native.Mathlib.Omega.{arith}
 use mathlib.Core.Path.{_≡_, refl, ap, _∙_}
 use lib.ListN.{length, length-set}
 use Rattle.verdict.specs.inner.Steps.{above, LinesFromAbove}
-use Rattle.verdict.proofs.Parent.{packed-none, packed-more, packed-all}
+use Rattle.verdict.proofs.Parent.{from-above-none, from-above-more, from-above-all}
 use Prim.Native.Nat.{_≤_, _-_}
 use borrow.Author.Needs.{needs}
 use Rattle.verdict.proofs.lines.lines_from_above.Statement.{statement}
@@ -16,7 +16,7 @@ abbrev μ-loop : tie.MeasureT-loop
 μ-loop placements nodes n up lines₀ i₀ lines i = n - i
 
 loop-holds : tie.Need-loop-holds Inv-loop μ-loop
-loop-holds c = (omega arith, refl, packed-none _ _ _ _)
+loop-holds c = (omega arith, refl, from-above-none _ _ _ _)
 
 mul-index : tie.Need-mul-index Inv-loop μ-loop
 mul-index c = search needs
@@ -75,7 +75,7 @@ loop-again c =
     let l = l2 .loop in (
       omega arith,
       simp length-set (l .inv .1),
-      packed-more (c .from-ends .result) (omega arith) (l .inv .2) (i .index .ensures) (a .above .ensures)
+      from-above-more (c .from-ends .result) (omega arith) (l .inv .2) (i .index .ensures) (a .above .ensures)
           (c .before .before .point .ensures) (c .before .point2 .ensures) (c .from-ends .ensures),
     )
 
@@ -83,7 +83,7 @@ same-length : tie.Need-same-length Inv-loop μ-loop
 same-length c = search needs
 
 returns : tie.Need-returns Inv-loop μ-loop
-returns c = packed-all (omega arith) (c .before .loop .inv .2)
+returns c = from-above-all (omega arith) (c .before .loop .inv .2)
 
 pub lines-from-above-spec : {M : Type 1} → statement M
 lines-from-above-spec =
