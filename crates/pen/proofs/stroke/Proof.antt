@@ -23,9 +23,8 @@ use Rattle.pen.proofs.stroke.Tie as tie
 accepted : (c : tie.Else1) → let s = c .before .before .before .before .before .before .before .before .before .args in refusal (s .table .now) (length (s .placements .now)) ≡ 0
 accepted c = sym (c .before .before .before .before .trace .ensures .refusal) ∙ c .if1 .left
 
-sound : (c : tie.Else1) → let s =
-    let s′ = c .before .before .before .before .before .before .before .before .before in
-    s′ .args in (fault (s .table .now) ≡ 0) × (2 * records (s .table .now) ≤ length (s .placements .now))
+sound : (c : tie.Else1) →
+    let s = c .before .before .before .before .before .before .before .before .before .args in (fault (s .table .now) ≡ 0) × (2 * records (s .table .now) ≤ length (s .placements .now))
 sound c = refusal-none _ _ .0 (accepted c)
 
 -- So there is one for each end of a line of records.
@@ -54,10 +53,10 @@ slice-aggregate-line c = search needs
 
 line-requires : tie.Need-line-requires
 line-requires c κs =
-    let i1 = c .before .before in
-    let reading = i1 .before .before .before .before .trace in
-    let r = reading .ensures .accepted (i1 .if1 .left) in
-    nodes-of (sound i1 .0) (reading .kept .1 .1 .0) (r .nodes) (r .listed)
+    let e = c .before .before in
+    let reading = e .before .before .before .before .trace in
+    let r = reading .ensures .accepted (e .if1 .left) in
+    nodes-of (sound e .0) (reading .kept .1 .1 .0) (r .nodes) (r .listed)
 
 choose-requires : tie.Need-choose-requires
 choose-requires c κs =
@@ -66,13 +65,13 @@ choose-requires c κs =
 
 returns-3 : tie.Need-returns-3
 returns-3 c =
-    let a = c .before .before .before .before in
-    let s = a .before .before .before .before .before .before .before .before .before .args in
+    let e = c .before .before .before .before in
+    let s = e .before .before .before .before .before .before .before .before .before .args in
     ap told
     (c .choose .ensures
     ∙ ap (λ (l : Ends). chosen (s .placements .now) (s .pitch) l (s .number)) (c .before .line .ensures)
     ∙ sym (stroke-chosen (s .placements .now) (s .pitch) (s .table .now) (s .number)))
-    ∙ sym (stroked (s .table .now) (s .placements .now) (s .pitch) (s .number) (accepted a) (c .before .before .before .if2 .left))
+    ∙ sym (stroked (s .table .now) (s .placements .now) (s .pitch) (s .number) (accepted e) (c .before .before .before .if2 .left))
 
 pub stroke-spec : {M : Type 1} → statement M
 stroke-spec =
