@@ -26,7 +26,8 @@ pub record Arranging (across : Bool) (i : ℕ) (a b : List ℕ) : Type 0 where
 pub arranging-none : (across : Bool) (a : List ℕ) → Arranging across 0 a a
 arranging-none across a = record { long = refl; done = record { line = λ i h. absurd (omega arith) }; rest = λ j h. refl }
 
-pub arranging-more : {across : Bool} {i v : ℕ} {a b : List ℕ} → i < length b → Arranging across i a b → Joined (view across (startOf (getD b i 0))) (view across (endOf (getD b i 0))) v → Arranging across (i + 1) a (set b i v)
+pub arranging-more : {across : Bool} {i v : ℕ} {a b : List ℕ} → i < length b → Arranging across i a b →
+    Joined (view across (startOf (getD b i 0))) (view across (endOf (getD b i 0))) v → Arranging across (i + 1) a (set b i v)
 arranging-more {across} {i} {v} {a} {b} h l x = record {
   long = length-set b i v ∙ l .long;
   done = record { line = λ j k. go j k (ℕ-discrete j i) };
@@ -40,15 +41,16 @@ arranging-more {across} {i} {v} {a} {b} h l x = record {
 pub arranging-all : {across : Bool} {i n : ℕ} {a b : List ℕ} → i ≡ n → Arranging across i a b → Arranged across n a b
 arranging-all {across} {a = a} {b} e l = subst (λ (k : ℕ). Arranged across k a b) e (l .done)
 
--- A line packed of two points whose numbers are in order.
+-- A line made of two points whose numbers are in order.
 pub joined-forth : {P Q : Point} {r n m : ℕ} → startOf r ≡ P → endOf r ≡ Q → n ≡ number 65536 P → m ≡ number 65536 Q → n ≤ m → Joined P Q r
 joined-forth {P} {Q} {r} p q e f h = record { ends = inl (p, q); onward = omega (arith, number-first r, number-last r, ap (number 65536) p, ap (number 65536) q) }
 
--- A line that goes on already, and one packed anew.
+-- A line that goes on already, and one made anew.
 pub joined-same : (across : Bool) (k : ℕ) → across ≡ false → first k ≤ last k → Joined (view across (startOf k)) (view across (endOf k)) k
 joined-same across k e h = rw e (record { ends = inl (refl, refl); onward = h })
 
-pub joined-by : (across : Bool) (k : ℕ) {r : ℕ} {P Q R S : Point} → P ≡ startOf k → Q ≡ endOf k → R ≡ view across P → S ≡ view across Q → Joined R S r → Joined (view across (startOf k)) (view across (endOf k)) r
+pub joined-by : (across : Bool) (k : ℕ) {r : ℕ} {P Q R S : Point} → P ≡ startOf k → Q ≡ endOf k → R ≡ view across P → S ≡ view across Q →
+    Joined R S r → Joined (view across (startOf k)) (view across (endOf k)) r
 joined-by across k {r} p q e f x = subst₂ (λ (X Y : Point). Joined X Y r) (e ∙ ap (view across) p) (f ∙ ap (view across) q) x
 
 pub joined-back : {P Q : Point} {r : ℕ} → Joined Q P r → Joined P Q r

@@ -1,8 +1,9 @@
 // Along which axis lines are sorted: by rows, or by columns where they overlap less in these (specs/inner/Arranged).
-use line::HALF;
 use line::end;
+use line::first;
+use line::from_ends;
+use line::last;
 use line::number;
-use line::pack;
 use line::start;
 use line::widened;
 use segment::Point;
@@ -20,9 +21,9 @@ fn join(p: Point, q: Point) -> u64
     ensures { λ r. ⌜ Joined p q r ⌝ }
 {
     if number(p) <= number(q) {
-        return pack(p, q);
+        return from_ends(p, q);
     }
-    pack(q, p)
+    from_ends(q, p)
 }
 
 // A point, with column and row exchanged or not.
@@ -43,7 +44,7 @@ fn aligned(k: u64, across: bool) -> u64
     ensures { λ r. ⌜ Joined (view across (startOf k)) (view across (endOf k)) r ⌝ }
 {
     if !across {
-        if k % HALF <= k / HALF {
+        if first(k) <= last(k) {
             return k;
         }
     }

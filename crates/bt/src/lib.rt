@@ -19,7 +19,7 @@ ghost use mathlib.Core.List.{[], _∷_};
 ghost use Rattle.drawing.specs.Answer.{drawnOf, placedIn};
 ghost use Rattle.hanging.specs.Hanging.{said, hangSays, afterHang};
 ghost use Rattle.hanging.specs.Holding.{heldRefusal, afterHeld};
-ghost use Rattle.hanging.specs.Cutting.{cutRefusal, afterCut};
+ghost use Rattle.cutting.specs.Cutting.{cutRefusal, afterCut};
 ghost use Rattle.pen.specs.Strokes.{told, strokeOf};
 ghost use Rattle.segment.specs.Segment.{at};
 ghost use Rattle.verdict.specs.Verdict.{Verdict};

@@ -1,5 +1,5 @@
--- Cutting (hanging's Cutting): every word afterwards, what it leaves (`cut-leaf`), and that cutting the only node leaves the empty tree (`cut-only`). Rests on Accepted and Written
--- (`table`), Places (`hanging`), Inserted, Graft, Hooked, PruneChain, PruneSound and PruneTree.
+-- Cutting (specs of `cutting`): every word afterwards, what it leaves (`cut-leaf`), and that cutting the only node leaves the empty tree (`cut-only`). Rests on Accepted and Written
+-- (`table`), Places (`cutting`), Inserted, Graft, Hooked, PruneChain, PruneSound and PruneTree.
 use mathlib.Core.Path.{_≡_, sym, ap, ap₂, _∙_}
 use mathlib.Core.Logic.{_≢_, ⊎-elim}
 use mathlib.Core.List.{List, [], _∷_}
@@ -12,8 +12,8 @@ use Rattle.table.specs.Trees.{named}
 use Rattle.table.specs.Writing.{Write, write}
 use Rattle.table.proofs.Accepted.{chain-within, root}
 use Rattle.table.proofs.Written.{Elsewhere, length-writes, writes-kept, writes-last}
-use Rattle.hanging.specs.Cutting.{cutRefusal, namerOf, holder, hook, cutOut}
-use Rattle.hanging.proofs.Places.{Cuttable, cuttable}
+use Rattle.cutting.specs.Cutting.{cutRefusal, namerOf, holder, hook, cutOut}
+use Rattle.cutting.proofs.Places.{Cuttable, cuttable}
 use Rattle.changes.specs.Leaf.{CutLeaf}
 use Rattle.changes.proofs.Inserted.{behind-length}
 use Rattle.changes.proofs.Graft.{Graft}

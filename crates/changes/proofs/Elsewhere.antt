@@ -1,5 +1,5 @@
 -- "Records on neither chain are still allowed and never taken": any call keeps all their words, refused or not (`never-taken`). Rests on Accepted (`table`), Answering and Places
--- (`hanging`), Hanging, Hooked and Cutting.
+-- (`hanging`, `cutting`), Hanging, Hooked and Cutting.
 use mathlib.Core.Path.{_≡_, refl, sym}
 use mathlib.Core.Logic.{_≢_, _⊎_, ⊎-elim, ⊎-map}
 use mathlib.Core.List.{List}
@@ -8,9 +8,11 @@ use Rattle.table.specs.Table.{word, Chained}
 use Rattle.table.specs.OffChain.{OnNeither}
 use Rattle.table.proofs.Accepted.{first-free}
 use Rattle.hanging.specs.Hanging.{hangRefusal, hung}
-use Rattle.hanging.specs.Cutting.{namerOf, holder, cutRefusal, cutOut}
-use Rattle.hanging.proofs.Answering.{after-hang, after-held, after-cut}
-use Rattle.hanging.proofs.Places.{hang-place, cuttable}
+use Rattle.hanging.proofs.Answering.{after-hang, after-held}
+use Rattle.hanging.proofs.Places.{hang-place}
+use Rattle.cutting.specs.Cutting.{namerOf, holder, cutRefusal, cutOut}
+use Rattle.cutting.proofs.Answering.{after-cut}
+use Rattle.cutting.proofs.Places.{cuttable}
 use Rattle.changes.specs.Calls.{Call, hang, hold, hangHeld, cut, after}
 use Rattle.changes.proofs.Hanging.{hung-graft}
 use Rattle.changes.proofs.Hooked.{before-cases, hooked}

@@ -1,5 +1,5 @@
--- Who names a record to be cut (hanging's Cutting): the one before it on the chain, and its parent's or the head's link, or none. Rests on Lists, Accepted and
--- Nexts (`table`), Places and Hooks (`hanging`) and Graft.
+-- Who names a record to be cut (specs of `cutting`): the one before it on the chain, and its parent's or the head's link, or none. Rests on Lists, Accepted and
+-- Nexts (`table`), Places and Hooks (`cutting`) and Graft.
 use mathlib.Core.Path.{_≡_, refl, sym, ap, _∙_}
 use mathlib.Core.Logic.{_≢_, _⊎_, inl, inr, ⊎-elim}
 use mathlib.Core.List.{List}
@@ -10,9 +10,9 @@ use Rattle.table.specs.Table.{records, word, nextOf, rootOf, Chained}
 use Rattle.table.proofs.Lists.{Alike, alike}
 use Rattle.table.proofs.Accepted.{records-bounds, chain-within}
 use Rattle.table.proofs.Nexts.{chain-before, next-apart}
-use Rattle.hanging.specs.Cutting.{namerOf, holder, hook}
-use Rattle.hanging.proofs.Places.{Cuttable}
-use Rattle.hanging.proofs.Hooks.{namer-cases, hook-right, hook-left, hook-head, not-named, hook-own}
+use Rattle.cutting.specs.Cutting.{namerOf, holder, hook}
+use Rattle.cutting.proofs.Places.{Cuttable}
+use Rattle.cutting.proofs.Hooks.{namer-cases, hook-right, hook-left, hook-head, not-named, hook-own}
 use Rattle.changes.proofs.Graft.{NamedBy}
 
 -- A leaf to be cut, and the word j of the record p: of its parent, on the left or on the right, of the head, or of itself.

@@ -1,5 +1,5 @@
 -- What any list of calls keeps, refused or not: the table is accepted, and chained and free records number the same (`kept-all`). Rests on Answering
--- (`hanging`), Inserted, Hanging and Cutting.
+-- (`hanging`, `cutting`), Inserted, Hanging and Cutting.
 use mathlib.Core.Path.{_≡_, refl, ap, _∙_}
 use mathlib.Core.List.{List, [], _∷_}
 use Prim.Native.Nat.{ℕ}
@@ -9,8 +9,9 @@ use Rattle.table.specs.Table.{chain, firstFree}
 use Rattle.table.specs.Refusal.{fault}
 use Rattle.hanging.specs.Hanging.{hangRefusal, hung, afterHang}
 use Rattle.hanging.specs.Holding.{afterHeld}
-use Rattle.hanging.specs.Cutting.{cutOut, afterCut}
-use Rattle.hanging.proofs.Answering.{after-hang, after-held, after-cut}
+use Rattle.cutting.specs.Cutting.{cutOut, afterCut}
+use Rattle.hanging.proofs.Answering.{after-hang, after-held}
+use Rattle.cutting.proofs.Answering.{after-cut}
 use Rattle.changes.specs.Leaf.{HungLeaf, CutLeaf}
 use Rattle.changes.specs.Calls.{Call, hang, hold, hangHeld, cut, after, afterAll, Conserved}
 use Rattle.changes.proofs.Inserted.{behind-length}

@@ -1,5 +1,5 @@
 -- Of records on neither chain "left, right and tag change no answer", of the bytes that the calls leave: two tables that differ there only do so after each call
--- (`off-chain-after`), so that no later answer tells them apart. Rests on Lists, Written, Accepted and OffChain (`table`), Places, Answering and OffChain (`hanging`), Inserted,
+-- (`off-chain-after`), so that no later answer tells them apart. Rests on Lists, Written, Accepted and OffChain (`table`), Places, Answering and OffChain (`hanging`, `cutting`), Inserted,
 -- Hanging, Hooked and Cutting.
 use mathlib.Core.Path.{_≡_, refl, sym, ap, _∙_}
 use mathlib.Core.Logic.{_⊎_, inl, inr, ⊎-elim}
@@ -21,10 +21,12 @@ use Rattle.table.proofs.Accepted.{records-bounds, chain-within, free-within, fi
 use Rattle.table.proofs.OffChain.{chain-same, first-same, starts-same}
 use Rattle.hanging.specs.Hanging.{slot, hangRefusal, hung, afterHang}
 use Rattle.hanging.specs.Holding.{afterHeld}
-use Rattle.hanging.specs.Cutting.{first, namerOf, holder, hook, cutRefusal, cutOut, afterCut}
-use Rattle.hanging.proofs.Places.{hang-place, Cuttable, cuttable}
+use Rattle.cutting.specs.Cutting.{first, namerOf, holder, hook, cutRefusal, cutOut, afterCut}
+use Rattle.hanging.proofs.Places.{hang-place}
+use Rattle.cutting.proofs.Places.{Cuttable, cuttable}
 use Rattle.hanging.proofs.Answering.{held-hang}
-use Rattle.hanging.proofs.OffChain.{hang-refusal-same, off-chain-held, off-chain-cut}
+use Rattle.hanging.proofs.OffChain.{hang-refusal-same, off-chain-held}
+use Rattle.cutting.proofs.OffChain.{off-chain-cut}
 use Rattle.changes.specs.Leaf.{HungLeaf, CutLeaf}
 use Rattle.changes.specs.Calls.{Call, hang, hold, hangHeld, cut, after}
 use Rattle.changes.proofs.Inserted.{behind-member}

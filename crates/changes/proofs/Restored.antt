@@ -9,7 +9,7 @@ use Rattle.table.specs.Table.{chain, Chained, firstFree, Empty}
 use Rattle.table.specs.Writing.{Bytes}
 use Rattle.table.proofs.Bytes.{word-small, bytes-all}
 use Rattle.hanging.specs.Hanging.{hangRefusal, hung}
-use Rattle.hanging.specs.Cutting.{cutRefusal, afterCut}
+use Rattle.cutting.specs.Cutting.{cutRefusal, afterCut}
 use Rattle.changes.proofs.Inserted.{behind-length}
 use Rattle.changes.proofs.GrowChain.{Growth, off-chain, graft-behind}
 use Rattle.changes.proofs.GrowSound.{leaf-chained, still-chained, root-leaf, root-kept, top-chained, grown-accepted}

@@ -8,7 +8,7 @@ use Rattle.hanging.specs.declared.Hung.{Hung}
 use Rattle.hanging.specs.declared.Hung.the-variants.{Leaf, Refused}
 use Rattle.hanging.specs.Hanging.{hangRefusal, said, hangSays, afterHang}
 use Rattle.hanging.specs.Holding.{heldRefusal, afterHeld}
-use Rattle.hanging.specs.Cutting.{cutRefusal, afterCut}
+use Rattle.cutting.specs.Cutting.{cutRefusal, afterCut}
 use Rattle.hanging.proofs.Answering.{hang-after, leaf-said, refused-kept}
 use Rattle.changes.proofs.Restored.{restored, cut-answers}
 use Rattle.changes.proofs.Halves.{second-half}

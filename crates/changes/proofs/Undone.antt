@@ -17,8 +17,8 @@ use Rattle.table.specs.Writing.{Bytes}
 use Rattle.table.proofs.Bytes.{word-small, same-words, bytes-all}
 use Rattle.table.proofs.Nexts.{next-unique}
 use Rattle.table.proofs.Saying.{lent-made}
-use Rattle.hanging.specs.Cutting.{cutRefusal, namerOf, holder, hook, cutOut, afterCut}
-use Rattle.hanging.proofs.Places.{Cuttable, cut-granted}
+use Rattle.cutting.specs.Cutting.{cutRefusal, namerOf, holder, hook, cutOut, afterCut}
+use Rattle.cutting.proofs.Places.{Cuttable, cut-granted}
 use Rattle.changes.proofs.Graft.{Graft, NamedBy}
 use Rattle.changes.proofs.PruneChain.{Prunable}
 use Rattle.changes.proofs.Hooked.{Hooked, before-cases, before-names, hooked}

@@ -7,7 +7,7 @@ use Rattle.table.specs.Table.{chain, free}
 use Rattle.table.specs.Refusal.{fault}
 use Rattle.hanging.specs.Hanging.{afterHang}
 use Rattle.hanging.specs.Holding.{afterHeld}
-use Rattle.hanging.specs.Cutting.{afterCut}
+use Rattle.cutting.specs.Cutting.{afterCut}
 
 -- A call, with what it is given.
 pub data Call : Type 0 where

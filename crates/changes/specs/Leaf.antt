@@ -10,7 +10,7 @@ use Rattle.table.specs.Tree.{Tree, none, node}
 use Rattle.table.specs.Trees.{trees}
 use Rattle.table.specs.Refusal.{fault}
 use Rattle.hanging.specs.Hanging.{hung}
-use Rattle.hanging.specs.Cutting.{cutOut}
+use Rattle.cutting.specs.Cutting.{cutOut}
 
 -- "Hang takes a parent, a side (0 left, 1 right)": the tree with the leaf f at that side of the node k
 unfoldable pub withLeaf : (k side f : ℕ) → Tree → Tree

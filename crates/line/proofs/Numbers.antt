@@ -7,7 +7,7 @@ use Rattle.segment.specs.inner.Test.{number}
 use Rattle.segment.proofs.Clashing.{point}
 use Rattle.line.specs.inner.Line.{startOf, endOf, first, last}
 
--- The four parts of a number that is packed of four of sixteen bits.
+-- The four parts of a number that is made of four of sixteen bits.
 module _ (a b c d n m : ℕ) (f : n ≡ 65536 * a + b) (g : m ≡ 65536 * c + d) (y : b < 65536) (z : c < 65536) (w : d < 65536) where
   end-row : (n * 4294967296 + m) / 281474976710656 ≡ a
   end-row = omega arith
@@ -21,9 +21,10 @@ module _ (a b c d n m : ℕ) (f : n ≡ 65536 * a + b) (g : m ≡ 65536 * c + d)
   start-column : (n * 4294967296 + m) % 65536 ≡ d
   start-column = omega arith
 
-pub packed : (P Q : Point) (n m : ℕ) → n ≡ number 65536 Q → m ≡ number 65536 P → P .row < 65536 → P .column < 65536 → Q .column < 65536 → (startOf (n * 4294967296 + m) ≡ P) × (endOf (n * 4294967296 + m) ≡ Q)
+pub made-of : (P Q : Point) (n m : ℕ) → n ≡ number 65536 Q → m ≡ number 65536 P → P .row < 65536 → P .column < 65536 → Q .column < 65536 →
+    (startOf (n * 4294967296 + m) ≡ P) × (endOf (n * 4294967296 + m) ≡ Q)
 unfolding startOf endOf
-packed P Q n m f g z w y = (
+made-of P Q n m f g z w y = (
   point (start-column (Q .row) (Q .column) (P .row) (P .column) n m f g y z w) (start-row (Q .row) (Q .column) (P .row) (P .column) n m f g y z w),
   point (end-column (Q .row) (Q .column) (P .row) (P .column) n m f g y z w) (end-row (Q .row) (Q .column) (P .row) (P .column) n m f g y z w),
 )

@@ -3,10 +3,10 @@ use segment::Point;
 ghost use mathlib.Core.Path.{_≡_};
 ghost use Prim.Native.Nat.{_<_};
 ghost use Rattle.segment.specs.inner.Test.{number as numberOf};
-ghost use Rattle.line.specs.inner.Line.{startOf, endOf};
+ghost use Rattle.line.specs.inner.Line.{startOf, endOf, first as firstOf, last as lastOf};
 
 // What a step of the end adds to a line's number: more than the number of any start.
-pub const HALF: u64 = 0x1_0000_0000;
+const HALF: u64 = 0x1_0000_0000;
 
 // A number of 16 bits, as one of 64.
 pub fn widened(n: u16) -> u64
@@ -23,10 +23,24 @@ pub fn number(p: Point) -> u64
 }
 
 // The line from p to q, as a number.
-pub fn pack(p: Point, q: Point) -> u64
+pub fn from_ends(p: Point, q: Point) -> u64
     ensures { λ r. ⌜ (startOf r ≡ p) × (endOf r ≡ q) ⌝ }
 {
     number(q) * HALF + number(p)
+}
+
+// The number of the point that a line starts at.
+pub fn first(k: u64) -> u64
+    ensures { λ r. ⌜ r ≡ firstOf k ⌝ }
+{
+    k % HALF
+}
+
+// The number of the point that it ends at.
+pub fn last(k: u64) -> u64
+    ensures { λ r. ⌜ r ≡ lastOf k ⌝ }
+{
+    k / HALF
 }
 
 pub fn start(k: u64) -> Point

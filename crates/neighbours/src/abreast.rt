@@ -1,6 +1,6 @@
 // The list of the places of the lines abreast, from right to left.
-use line::HALF;
 use line::end;
+use line::first;
 use line::start;
 use segment::cross;
 ghost use mathlib.Core.Path.{_≡_};
@@ -77,7 +77,7 @@ pub fn replace(abreast: &mut [u16], m: usize, p: usize, e: usize, k: u16)
 fn right_of_point(k: u64, level: u64) -> bool {
     let d = cross(start(k), end(k), start(level));
     if d == 0 {
-        return k % HALF != level;
+        return first(k) != level;
     }
     0 < d
 }
@@ -108,7 +108,7 @@ pub fn starting(lines: &[u64], abreast: &[u16], m: usize, p: usize, level: u64) 
 {
     let mut e = p;
     while e < m {
-        if line_at(lines, abreast, e) % HALF != level {
+        if first(line_at(lines, abreast, e)) != level {
             return e;
         }
         e += 1;

@@ -10,7 +10,8 @@ use crate::abreast::place;
 use crate::abreast::replace;
 use crate::abreast::starting;
 use crate::side::beside;
-use line::HALF;
+use line::first;
+use line::last;
 ghost use mathlib.Core.Path.{_≡_};
 ghost use mathlib.Core.Bool.{true};
 ghost use Prim.Native.Nat.{ℕ, _+_, _-_, _≤_, _<_};
@@ -76,7 +77,7 @@ fn next_level(lines: &[u64], i: usize, soon: u64) -> u64
     if i == 0 {
         return soon;
     }
-    let end = lines[i - 1] / HALF;
+    let end = last(lines[i - 1]);
     if soon < end {
         return end;
     }
@@ -91,7 +92,7 @@ fn ends_at(lines: &[u64], i: usize, level: u64) -> bool
     if i == 0 {
         return false;
     }
-    lines[i - 1] / HALF == level
+    last(lines[i - 1]) == level
 }
 
 // ---- the sweep
@@ -116,7 +117,7 @@ pub fn clear(lines: &[u64], abreast: &mut [u16]) -> bool
             if !come_in(lines, abreast, m, p, e, i) {
                 return false;
             }
-            soon = lines[i] % HALF;
+            soon = first(lines[i]);
             m = m + p + 1 - e;
         } else {
             if p == e {

@@ -1,5 +1,6 @@
 // Is a line beside another, to its right? By the numbers of their ends (specs/inner/Side).
-use line::HALF;
+use line::first;
+use line::last;
 use line::start;
 use segment::cross;
 ghost use mathlib.Core.Path.{_≡_};
@@ -47,10 +48,10 @@ fn beyond(p: u64, q: u64, r: u64, s: u64) -> bool
 pub fn beside(x: u64, y: u64) -> bool
     ensures { λ z. ⌜ (z ≡ true → Next x y) ⌝ }
 {
-    let p = x % HALF;
-    let q = x / HALF;
-    let r = y % HALF;
-    let s = y / HALF;
+    let p = first(x);
+    let q = last(x);
+    let r = first(y);
+    let s = last(y);
     if beyond(p, q, r, s) {
         return true;
     }

@@ -62,7 +62,8 @@ stands : (t ks : List ℕ) (k : ℕ) (s : Side) → T (member k ks) → linkOf t
 unfolding linesFrom
 stands t [] k s m h = absurd (unfold member in m)
 stands t (n ∷ ns) k s m h =
-    ⊎-elim (λ (e : k ≡ n). rw (sym e) (own s h)) (λ (m : T (member k ns)). behind (ends k (linkOf t s k)) n (leftOf t n) _ (behind (ends k (linkOf t s k)) n (rightOf t n) _ (stands t ns k s m h))) (member-cons k n ns .0 m)
+    ⊎-elim (λ (e : k ≡ n). rw (sym e) (own s h)) (λ (m : T (member k ns)). behind (ends k (linkOf t s k)) n (leftOf t n) _
+    (behind (ends k (linkOf t s k)) n (rightOf t n) _ (stands t ns k s m h))) (member-cons k n ns .0 m)
   where
     own : (s : Side) → linkOf t s k ≢ 0 → Stands (ends k (linkOf t s k)) (lineTo k (leftOf t k) ++ (lineTo k (rightOf t k) ++ linesFrom t ns))
     own left h = before k (leftOf t k) _ h

@@ -16,7 +16,8 @@ use Rattle.guarantee.proofs.Rows.{no-shared-rows, under-ruler, no-gaps}
 use Rattle.pen.proofs.Exact.{only}
 use Rattle.pen.proofs.Plotted.{plotted, strokes-number}
 use Rattle.pen.proofs.OffChain.{off-chain-stroke}
-use Rattle.hanging.proofs.OffChain.{off-chain-hang, off-chain-held, off-chain-cut}
+use Rattle.hanging.proofs.OffChain.{off-chain-hang, off-chain-held}
+use Rattle.cutting.proofs.OffChain.{off-chain-cut}
 use Rattle.changes.proofs.Hanging.{hang-leaf}
 use Rattle.changes.proofs.Cutting.{cut-leaf, cut-only}
 use Rattle.changes.proofs.Restored.{cut-answers, restored}

@@ -36,7 +36,7 @@ use Rattle.pen.specs.Strokes.{strokes, strokeOf}
 use Rattle.pen.specs.Plotted.{PlottedOnce}
 use Rattle.hanging.specs.Hanging.{hangRefusal, hangSays, hung}
 use Rattle.hanging.specs.Holding.{heldRefusal}
-use Rattle.hanging.specs.Cutting.{cutRefusal, cutOut, afterCut}
+use Rattle.cutting.specs.Cutting.{cutRefusal, cutOut, afterCut}
 use Rattle.changes.specs.Leaf.{HungLeaf, CutLeaf}
 use Rattle.changes.specs.Halves.{SecondHalf}
 use Rattle.changes.specs.Calls.{Call, after, afterAll, Conserved}

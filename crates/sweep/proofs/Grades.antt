@@ -70,7 +70,8 @@ no-worse-up h n = record { no-worse = λ k a. omega (arith, n .no-worse k a) }
 
 -- ---- lines whose columns or numbers are apart
 
-pub beside-apart : {P Q R S : Point} {low high : ℕ} → low ≡ min (P .column) (Q .column) → high ≡ max (P .column) (Q .column) → (max (R .column) (S .column) < low) ⊎ (high < min (R .column) (S .column)) → Share R S P Q → ⊥
+pub beside-apart : {P Q R S : Point} {low high : ℕ} → low ≡ min (P .column) (Q .column) → high ≡ max (P .column) (Q .column) →
+    (max (R .column) (S .column) < low) ⊎ (high < min (R .column) (S .column)) → Share R S P Q → ⊥
 beside-apart e f (inl h) x = columns-apart (omega arith) x
 beside-apart e f (inr h) x = columns-apart (omega arith) (share-exchange x)
 
@@ -91,7 +92,8 @@ ends-apart a b p q r s h k l = (
 pub from-none : (i : ℕ) (l : List ℕ) (w : Meeting) → WorstFrom i i l w w
 from-none i l w = record { found = inl refl; no-better = omega arith; none-worse = λ a h k. absurd (omega arith) }
 
-pub from-more : {j k i : ℕ} {l : List ℕ} {w m r : Meeting} → j < i → k ≡ j + 1 → WorstFrom k i l w m → WorseWith m (startOf (getD l j 0)) (endOf (getD l j 0)) (startOf (getD l i 0)) (endOf (getD l i 0)) r → WorstFrom j i l w r
+pub from-more : {j k i : ℕ} {l : List ℕ} {w m r : Meeting} → j < i → k ≡ j + 1 → WorstFrom k i l w m →
+    WorseWith m (startOf (getD l j 0)) (endOf (getD l j 0)) (startOf (getD l i 0)) (endOf (getD l i 0)) r → WorstFrom j i l w r
 from-more {j} {k} {i} {l} {w} {m} {r} h e′ f b = record { found = ⊎-elim old new (b .either); no-better = omega (arith, f .no-better, b .first); none-worse = λ x g k. go x g k (ℕ-discrete x j) }
   where
     old : r ≡ m → (r ≡ w) ⊎ Below i (λ x. Met r (getD l x 0) (getD l i 0))
@@ -105,7 +107,8 @@ from-more {j} {k} {i} {l} {w} {m} {r} h e′ f b = record { found = ⊎-elim old
     go x g k (no e) = no-worse-up (b .first) (f .none-worse x (omega arith) k)
 
 -- A line that ends where line i starts, or before, and those before it, are apart from line i.
-pub from-ended : {n j m i : ℕ} {l : List ℕ} {w r : Meeting} → Onward n l → Ascending last n l → i < n → j < i → last (getD l j 0) ≤ first (getD l i 0) → m ≡ j + 1 → WorstFrom m i l w r → WorstFrom 0 i l w r
+pub from-ended : {n j m i : ℕ} {l : List ℕ} {w r : Meeting} → Onward n l → Ascending last n l → i < n → j < i →
+    last (getD l j 0) ≤ first (getD l i 0) → m ≡ j + 1 → WorstFrom m i l w r → WorstFrom 0 i l w r
 from-ended {n} {j} {m} {i} {l} {w} {r} o s h k e e′ f = record { found = f .found; no-better = f .no-better; none-worse = λ a g b. go a b (decLt j a) }
   where
     before : (a : ℕ) → a ≤ j → Dec (a ≡ j) → last (getD l a 0) ≤ last (getD l j 0)

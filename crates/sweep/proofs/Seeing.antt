@@ -57,7 +57,8 @@ worst-arranged {across} {n} {a} {b} {m} r w = record {
   none-worse = λ i j h k. record { no-worse = λ z x. w .none-worse i j h k .no-worse z (alike-kind z (alike-back (same i j (omega arith) k)) x) };
 }
   where
-    same : (i j : ℕ) → i < n → j < n → Alike (startOf (getD b i 0)) (endOf (getD b i 0)) (startOf (getD b j 0)) (endOf (getD b j 0)) (startOf (getD a i 0)) (endOf (getD a i 0)) (startOf (getD a j 0)) (endOf (getD a j 0))
+    same : (i j : ℕ) → i < n → j < n →
+        Alike (startOf (getD b i 0)) (endOf (getD b i 0)) (startOf (getD b j 0)) (endOf (getD b j 0)) (startOf (getD a i 0)) (endOf (getD a i 0)) (startOf (getD a j 0)) (endOf (getD a j 0))
     same i j h k = alike-then (joined-alike (r .line i h) (r .line j k)) (view-alike across (startOf (getD a i 0)) (endOf (getD a i 0)) (startOf (getD a j 0)) (endOf (getD a j 0)))
 
 -- ---- lines settled

@@ -7,8 +7,9 @@ use crate::meeting::worse_with;
 use axis::View;
 use axis::settle;
 use axis::view_of;
-use line::HALF;
 use line::end;
+use line::first;
+use line::last;
 use line::start;
 use neighbours::clear;
 use segment::least;
@@ -48,7 +49,7 @@ fn worst_before(lines: &[u64], i: usize, worst: Meeting) -> Found
     let mut j = i;
     while 0 < j {
         let before = lines[j - 1];
-        if before / HALF <= k % HALF {
+        if last(before) <= first(k) {
             return Found { worst, from: j };
         }
         worst = worse_with(worst, p, q, low, high, start(before), end(before));
@@ -156,7 +157,7 @@ pub fn same_end(lines: &[u64]) -> bool
 {
     let mut i = 1;
     while i < lines.len() {
-        if lines[i - 1] / HALF == lines[i] / HALF {
+        if last(lines[i - 1]) == last(lines[i]) {
             return true;
         }
         i += 1;

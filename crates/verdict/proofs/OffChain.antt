@@ -51,7 +51,12 @@ onward : {t u p : List ℕ} {v : ℕ} → OffChain t u → Verdict t p v → Ver
 onward {t} {u} {p} h (inl a) = let e = refusal-same h (length p) in inl (λ z. a .0 (sym e ∙ z), a .1 ∙ sym e)
 onward {t} {u} {p} h (inr a) =
     let g = off-chain-sym h in
-    inr (refusal-same h (length p) ∙ a .0, first-same (points h) (points g) (first-same (rows h) (rows g) (first-same (two-lines h) (two-lines g) (first-same (clashes h) (clashes g) (first-same (turns h) (turns g) (λ e. e))))) (a .1))
+    inr (
+      refusal-same h (length p) ∙ a .0,
+      first-same (points h) (points g)
+          (first-same (rows h) (rows g) (first-same (two-lines h) (two-lines g)
+          (first-same (clashes h) (clashes g) (first-same (turns h) (turns g) (λ e. e))))) (a .1),
+    )
 
 pub off-chain-verdict : (t u p : List ℕ) (v : ℕ) → OffChain t u → Verdict t p v ↔ Verdict u p v
 off-chain-verdict t u p v h = (onward h, onward (off-chain-sym h))

@@ -15,7 +15,8 @@ use Rattle.bt.proofs.put_stroke.Statement.{statement}
 use Rattle.bt.proofs.put_stroke.Tie as tie
 
 -- What is said and written of a case is so of the stroke that is that case.
-put : {s case : Stroke} {r : ℕ} (lent after : List Float) → s ≡ case → r ≡ saidBits (told case .said) → after ≡ overwritten (told case .point) lent → (r ≡ saidBits (told s .said)) × (after ≡ overwritten (told s .point) lent)
+put : {s case : Stroke} {r : ℕ} (lent after : List Float) → s ≡ case → r ≡ saidBits (told case .said) →
+    after ≡ overwritten (told case .point) lent → (r ≡ saidBits (told s .said)) × (after ≡ overwritten (told s .point) lent)
 put lent after e n w = rw e (n, w)
 
 -- Where there is no point, all is kept.

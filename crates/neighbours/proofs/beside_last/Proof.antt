@@ -25,7 +25,10 @@ beside-requires : tie.Need-beside-requires
 beside-requires c κs = search needs
 
 returns-3 : tie.Need-returns-3
-returns-3 c = λ e s f g. let z = c .before .before .before .before .before .before .before in next-at (z .args .lines .now) (z .args .abreast .now) s (c .before .before .line-at .ensures) (c .before .line-at2 .ensures) f (c .beside .ensures e)
+returns-3 c =
+    let a = c .before .before .before .before .before .before .before in
+    λ e s f g. let z = a in next-at (z .args .lines .now) (z .args .abreast .now) s (c .before .before .line-at .ensures)
+    (c .before .line-at2 .ensures) f (c .beside .ensures e)
 
 pub beside-last-spec : {M : Type 1} → statement M
 beside-last-spec =

@@ -98,11 +98,14 @@ same-length c = search needs
 returns : tie.Need-returns Inv-loop μ-loop
 returns c = λ z. absurd (subst T (sym z) tt)
 
-mul-soon : tie.Need-mul-soon Inv-loop μ-loop
-mul-soon c = search needs
+mul-first : tie.Need-mul-first Inv-loop μ-loop
+mul-first c = search needs
 
-shared-slice-read-soon : tie.Need-shared-slice-read-soon Inv-loop μ-loop
-shared-slice-read-soon c = search needs
+shared-slice-read-first : tie.Need-shared-slice-read-first Inv-loop μ-loop
+shared-slice-read-first c = search needs
+
+first-requires : tie.Need-first-requires Inv-loop μ-loop
+first-requires c κs = search needs
 
 add-m : tie.Need-add-m Inv-loop μ-loop
 add-m c = search needs
@@ -115,18 +118,24 @@ sub-m c = search needs
 
 loop-less : tie.Need-loop-less Inv-loop μ-loop
 loop-less c =
-    let d = c .before .before .before .before .before .before in
+    let d = c .before .before .before .before .before .before .before in
     let g = d .before .before .starting .ensures in
     omega (arith, d .before .ends-at .ensures (d .if1 .taken) .0, g .0, g .1 .onward)
 
 loop-again : tie.Need-loop-again Inv-loop μ-loop
 loop-again c =
-    let g = c .before .before .before .before .before .before .before .before in
+    let i = c .before .before .before .before .before .before .before in
+    let e = i .before in
+    let g = e .before in
     let l = g .before .before .before .before .before .before in
     let s = l .before .before .before in
-    let f = c .before .before .before .before .before .before .before .ends-at .ensures (c .before .before .before .before .before .before .if1 .taken) in
-    let d = c .before .before .before .before .come-in .ensures (not-false _ (c .before .if2 .left)) in
-    (omega (arith, f .0, g .starting .ensures .1 .onward), omega arith, reached-in (s .pre .0) (s .pre .1 .0) (f .0) (omega arith) (l .loop .inv .2) d)
+    let f = e .ends-at .ensures (i .if1 .taken) in
+    let k = c .before .before .before .before .before in
+    let d = k .come-in .ensures (not-false _ (c .before .before .if2 .left)) in (
+      omega (arith, f .0, g .starting .ensures .1 .onward),
+      omega (arith, k .come-in .kept .1, l .loop .inv),
+      rw (c .first .ensures) (reached-in (s .pre .0) (s .pre .1 .0) (f .0) (omega arith) (l .loop .inv .2) d),
+    )
 
 same-length-2 : tie.Need-same-length-2 Inv-loop μ-loop
 same-length-2 c = search needs
@@ -191,8 +200,9 @@ clear-spec =
     come-in-requires
     same-length
     returns
-    mul-soon
-    shared-slice-read-soon
+    mul-first
+    shared-slice-read-first
+    first-requires
     add-m
     add-m-2
     sub-m

@@ -18,23 +18,32 @@ abbrev μ-loop : tie.MeasureT-loop
 loop-holds : tie.Need-loop-holds Inv-loop μ-loop
 loop-holds c = (omega arith, λ a b h k l. absurd (omega arith))
 
-sub-if1 : tie.Need-sub-if1 Inv-loop μ-loop
-sub-if1 c = search needs
+sub-last : tie.Need-sub-last Inv-loop μ-loop
+sub-last c = search needs
 
-mul-if1 : tie.Need-mul-if1 Inv-loop μ-loop
-mul-if1 c = search needs
+mul-last : tie.Need-mul-last Inv-loop μ-loop
+mul-last c = search needs
 
-shared-slice-read-if1 : tie.Need-shared-slice-read-if1 Inv-loop μ-loop
-shared-slice-read-if1 c = search needs
+shared-slice-read-last : tie.Need-shared-slice-read-last Inv-loop μ-loop
+shared-slice-read-last c = search needs
 
-mul-if1-2 : tie.Need-mul-if1-2 Inv-loop μ-loop
-mul-if1-2 c = search needs
+last-requires : tie.Need-last-requires Inv-loop μ-loop
+last-requires c κs = search needs
 
-shared-slice-read-if1-2 : tie.Need-shared-slice-read-if1-2 Inv-loop μ-loop
-shared-slice-read-if1-2 c = search needs
+mul-last-2 : tie.Need-mul-last-2 Inv-loop μ-loop
+mul-last-2 c = search needs
+
+shared-slice-read-last-2 : tie.Need-shared-slice-read-last-2 Inv-loop μ-loop
+shared-slice-read-last-2 c = search needs
+
+last-requires-2 : tie.Need-last-requires-2 Inv-loop μ-loop
+last-requires-2 c κs = search needs
 
 returns : tie.Need-returns Inv-loop μ-loop
-returns c = let i = c .before .before .before .before .loop .i in found (i, c .before .before .before .loop-test .taken, (i - 1, omega arith, c .if1 .taken))
+returns c =
+    let t = c .before .before .before .before .before in
+    let i = t .before .loop .i in
+    found (i, t .loop-test .taken, (i - 1, omega arith, omega arith))
 
 add-i : tie.Need-add-i Inv-loop μ-loop
 add-i c = search needs
@@ -43,7 +52,14 @@ loop-less : tie.Need-loop-less Inv-loop μ-loop
 loop-less c = search needs
 
 loop-again : tie.Need-loop-again Inv-loop μ-loop
-loop-again c = let l = c .before .before .before .before .loop in (omega arith, λ a b h k m. next-differs (c .before .before .before .before .before .pre) (l .i) (l .inv .0) (c .before .before .before .loop-test .taken) (λ x y g w. l .inv .1 x y g w (omega arith)) (c .if1 .left) a b h k)
+loop-again c =
+    let t = c .before .before .before .before .before in
+    let s = t .before .before .before in
+    let l = t .before .loop in (
+      omega arith,
+      λ a b h k m. next-differs (s .pre) (l .i) (l .inv .0) (t .loop-test .taken) (λ x y g w. l .inv .1 x y g w (omega arith))
+          (λ q. c .if1 .left (omega (arith, q))) a b h k,
+    )
 
 returns-2 : tie.Need-returns-2 Inv-loop μ-loop
 returns-2 c = none (λ z. omega (arith, c .before .loop .inv .1 (z .2 .0) (z .0) (z .2 .1) (omega (arith, z .1)) (z .1), z .2 .2))
@@ -55,11 +71,13 @@ same-end-spec =
     Inv-loop
     μ-loop
     loop-holds
-    sub-if1
-    mul-if1
-    shared-slice-read-if1
-    mul-if1-2
-    shared-slice-read-if1-2
+    sub-last
+    mul-last
+    shared-slice-read-last
+    last-requires
+    mul-last-2
+    shared-slice-read-last-2
+    last-requires-2
     returns
     add-i
     loop-less

@@ -17,7 +17,10 @@ mul-worst-of : tie.Need-mul-worst-of
 mul-worst-of c = search needs
 
 worst-of-requires : tie.Need-worst-of-requires
-worst-of-requires c κs = let s = c .before .before .before .before .before .settle in ((omega arith, omega arith), (settled-onward (s .kept .0) (s .ensures), settled-ascends (s .kept .0) (s .ensures)))
+worst-of-requires c κs =
+    let se = c .before .before .before .before .before in
+    let s = se .settle in
+    ((omega arith, omega arith), (settled-onward (s .kept .0) (s .ensures), settled-ascends (s .kept .0) (s .ensures)))
 
 same-length : tie.Need-same-length
 same-length c = search needs

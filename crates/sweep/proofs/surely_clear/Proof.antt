@@ -10,7 +10,10 @@ settle-requires : tie.Need-settle-requires
 settle-requires c κs = search needs
 
 clear-requires : tie.Need-clear-requires
-clear-requires c κs = let s = c .before .before .before .before .before .before .settle in (settled-onward (s .kept .0) (s .ensures), (settled-ascends (s .kept .0) (s .ensures), (omega arith, omega arith)))
+clear-requires c κs =
+    let se = c .before .before .before .before .before .before in
+    let s = se .settle in
+    (settled-onward (s .kept .0) (s .ensures), (settled-ascends (s .kept .0) (s .ensures), (omega arith, omega arith)))
 
 same-length : tie.Need-same-length
 same-length c = search needs

@@ -1,6 +1,6 @@
 -- `worst_before`: from the line before it downwards. Rests on Grades.
 use native.Mathlib.Omega.{arith}
-use Prim.Native.Nat.{_≤_, _-_}
+use Prim.Native.Nat.{_≤_, _-_, _<_}
 use Rattle.sweep.specs.inner.Meetings.{WorstFrom}
 use Rattle.sweep.proofs.Grades.{from-none, from-more, from-ended, from-first, worse-at, ends-apart}
 use borrow.Author.Needs.{needs}
@@ -43,8 +43,18 @@ mul-before c = search needs
 shared-slice-read-before : tie.Need-shared-slice-read-before Inv-loop μ-loop
 shared-slice-read-before c = search needs
 
+last-requires : tie.Need-last-requires Inv-loop μ-loop
+last-requires c κs = search needs
+
+first-requires : tie.Need-first-requires Inv-loop μ-loop
+first-requires c κs = search needs
+
 returns : tie.Need-returns Inv-loop μ-loop
-returns c = let s = c .before .before .before .before .before .before .before .before .before .before in let l = c .before .before .before .loop in (omega arith, from-ended (s .pre .1 .0) (s .pre .1 .1) (s .pre .0) (omega arith) (c .if1 .taken) (omega arith) (l .inv .1))
+returns c =
+    let l2 = c .before .before .before .before .before in
+    let s = l2 .before .before .before .before .before .before .before in
+    let l = l2 .loop in
+    (omega arith, from-ended {j = l .j - 1} (s .pre .1 .0) (s .pre .1 .1) (s .pre .0) (omega arith) (omega arith) (omega arith) (l .inv .1))
 
 start-requires-2 : tie.Need-start-requires-2 Inv-loop μ-loop
 start-requires-2 c κs = search needs
@@ -55,15 +65,18 @@ end-requires-2 c κs = search needs
 worse-with-requires : tie.Need-worse-with-requires Inv-loop μ-loop
 worse-with-requires c κs =
     let e = c .before .before in
-    let l = e .before .before .before in
+    let t = e .before .before .before .before in
+    let l = t .before in
     let m = l .before in
     let n = m .before in
     let f = n .before in
     let g = f .before in
-    let s = g .before .before .before in (
+    let s = g .before .before .before in
+    let below : l .loop .j - 1 < s .args .i = omega (arith, t .loop-test .taken, l .loop .inv .0) in (
       (n .least .ensures, m .most .ensures),
-      ends-apart _ _ (g .start .ensures) (f .end .ensures) (c .before .start2 .ensures) (c .end2 .ensures) (e .if1 .left)
-          (s .pre .1 .0 .onward (l .loop .j - 1) (omega arith)) (s .pre .1 .1 .rises (l .loop .j - 1) (s .args .i) (omega arith) (s .pre .0)),
+      ends-apart _ _ (g .start .ensures) (f .end .ensures) (c .before .start2 .ensures) (c .end2 .ensures)
+          (omega (arith, e .if1 .left, e .before .first .ensures, e .before .before .last .ensures))
+          (s .pre .1 .0 .onward (l .loop .j - 1) (omega (arith, below, s .pre .0))) (s .pre .1 .1 .rises (l .loop .j - 1) (s .args .i) below (s .pre .0)),
     )
 
 sub-j : tie.Need-sub-j Inv-loop μ-loop
@@ -75,9 +88,13 @@ loop-less c = search needs
 loop-again : tie.Need-loop-again Inv-loop μ-loop
 loop-again c =
     let e = c .before .before .before in
-    let l = e .before .before .before in
-    let f = l .before .before .before in
-    (omega arith, from-more (omega arith) (omega arith) (l .loop .inv .1) (worse-at (c .before .before .start2 .ensures) (c .before .end2 .ensures) (f .before .start .ensures) (f .end .ensures) (c .worse-with .ensures)))
+    let l = e .before .before .before .before .before in
+    let f = l .before .before .before in (
+      omega arith,
+      from-more (omega arith) (omega arith) (l .loop .inv .1)
+          (worse-at (c .before .before .start2 .ensures) (c .before .end2 .ensures) (f .before .start .ensures) (f .end .ensures)
+          (c .worse-with .ensures)),
+    )
 
 returns-2 : tie.Need-returns-2 Inv-loop μ-loop
 returns-2 c = (omega arith, from-first (omega arith) (c .before .loop .inv .1))
@@ -98,6 +115,8 @@ worst-before-spec =
     sub-before
     mul-before
     shared-slice-read-before
+    last-requires
+    first-requires
     returns
     start-requires-2
     end-requires-2

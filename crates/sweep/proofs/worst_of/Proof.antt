@@ -26,7 +26,12 @@ grade-requires : tie.Need-grade-requires Inv-loop μ-loop
 grade-requires c κs = search needs
 
 returns : tie.Need-returns Inv-loop μ-loop
-returns c = let w = c .before .before in (λ z. worst-utmost (omega arith) (omega (arith, c .if1 .taken, c .before .grade .ensures)) (worst-more (w .before .before .loop .inv .3) (w .worst-before .ensures .1)), λ z. refl)
+returns c =
+    let w = c .before .before in (
+      λ z. worst-utmost (omega arith) (omega (arith, c .if1 .taken, c .before .grade .ensures))
+          (worst-more (w .before .before .loop .inv .3) (w .worst-before .ensures .1)),
+      λ z. refl,
+    )
 
 sub-compared : tie.Need-sub-compared Inv-loop μ-loop
 sub-compared c = search needs

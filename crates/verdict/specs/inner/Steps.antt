@@ -25,7 +25,7 @@ abbrev pub nodeAt : List ℕ → List ℕ → ℕ → Point
 nodeAt p nodes i = pointOf p (getD nodes i 0)
 
 -- The first n nodes of a list, and what is above each, have their places among the placements.
-pub record Packable (p nodes : List ℕ) (n : ℕ) (up : List ℕ) : Type 0 where
+pub record AllPlaced (p nodes : List ℕ) (n : ℕ) (up : List ℕ) : Type 0 where
   pub long : n ≤ length nodes
   pub fits : (i : ℕ) → i < n → getD nodes i 0 < length up
   pub placed : (i : ℕ) → i < n → 2 * getD nodes i 0 + 1 < length p

@@ -52,8 +52,11 @@ plan-of-requires c κs =
 exchange-placements-requires : tie.Need-exchange-placements-requires
 exchange-placements-requires c κs =
     let drawn = c .before .before .before .before in
-    let s = drawn .before .before .before .before .before .before .before .before .before .before .before .before .before .before .before in
-    (listed-few _ _ _ (s .pre .0) (s .pre .1 .1 .1 .1 .0 .0) (s .pre .1 .1 .1 .1 .1 .1), listed-room _ _ _ _ (s .pre .0) (s .pre .1 .1 .1 .1 .1 .0) (drawn .plan-of .kept .1 .1 .1 .1 .0) (s .pre .1 .1 .1 .1 .0 .1))
+    let s = drawn .before .before .before .before .before .before .before .before .before .before .before .before .before .before .before in (
+      listed-few _ _ _ (s .pre .0) (s .pre .1 .1 .1 .1 .0 .0) (s .pre .1 .1 .1 .1 .1 .1),
+      listed-room _ _ _ _ (s .pre .0) (s .pre .1 .1 .1 .1 .1 .0)
+          (drawn .plan-of .kept .1 .1 .1 .1 .0) (s .pre .1 .1 .1 .1 .0 .1),
+    )
 
 same-length : tie.Need-same-length
 same-length c = search needs

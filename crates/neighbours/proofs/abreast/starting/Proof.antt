@@ -22,8 +22,11 @@ line-at-requires : tie.Need-line-at-requires Inv-loop μ-loop
 line-at-requires c κs =
     let s = c .before .before .before .before in let l = c .before .loop in (omega (arith, s .pre .0 .room), s .pre .0 .below (l .e) (omega arith))
 
+first-requires : tie.Need-first-requires Inv-loop μ-loop
+first-requires c κs = search needs
+
 returns : tie.Need-returns Inv-loop μ-loop
-returns c = c .before .before .before .loop .inv
+returns c = c .before .before .before .before .loop .inv
 
 add-e : tie.Need-add-e Inv-loop μ-loop
 add-e c = search needs
@@ -32,7 +35,7 @@ loop-less : tie.Need-loop-less Inv-loop μ-loop
 loop-less c = search needs
 
 loop-again : tie.Need-loop-again Inv-loop μ-loop
-loop-again c = (omega arith, starting-more (c .before .before .before .loop .inv .1) (ap first (sym (c .before .line-at .ensures)) ∙ c .if1 .left))
+loop-again c = (omega arith, starting-more (c .before .before .before .before .loop .inv .1) (ap first (sym (c .before .before .line-at .ensures)) ∙ sym (c .before .first .ensures) ∙ c .if1 .left))
 
 returns-2 : tie.Need-returns-2 Inv-loop μ-loop
 returns-2 c = c .before .loop .inv
@@ -45,6 +48,7 @@ starting-spec =
     μ-loop
     loop-holds
     line-at-requires
+    first-requires
     returns
     add-e
     loop-less

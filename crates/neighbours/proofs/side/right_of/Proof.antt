@@ -24,7 +24,10 @@ cross-requires : tie.Need-cross-requires
 cross-requires c κs = search needs
 
 returns : tie.Need-returns
-returns c = λ z. subst (λ x. T (ltZ x (pos 0))) (given w64 (cross-at (c .before .before .before .start .ensures) (c .before .before .start2 .ensures) (c .before .start3 .ensures) (c .cross .ensures)) (c .cross .ok)) (subst T (sym z) tt)
+returns c =
+    let s = c .before .before .before in
+    λ z. subst (λ x. T (ltZ x (pos 0))) (given w64 (cross-at (s .start .ensures) (c .before .before .start2 .ensures) (c .before .start3 .ensures)
+    (c .cross .ensures)) (c .cross .ok)) (subst T (sym z) tt)
 
 pub right-of-spec : {M : Type 1} → statement M
 right-of-spec =

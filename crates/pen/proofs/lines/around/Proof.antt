@@ -30,7 +30,8 @@ returns c =
 returns-2 : tie.Need-returns-2
 returns-2 c =
     let first = c .before .before .before .before in
-    λ rest. on-second _ _ _ _ (first .before .before .left .ensures .0) (first .along .ensures) rest _ _ (c .along2 .result) (c .before .before .first2 .given .1) (first .before .right .ensures .0) (c .along2 .ensures)
+    λ rest. on-second _ _ _ _ (first .before .before .left .ensures .0) (first .along .ensures) rest _ _ (c .along2 .result)
+    (c .before .before .first2 .given .1) (first .before .right .ensures .0) (c .along2 .ensures)
 
 pub around-spec : {M : Type 1} → statement M
 around-spec =

@@ -29,13 +29,15 @@ Rest c =
     let s = l .before .before .before .args in
     linesFrom (s .table .now) (drop (l .loop .i + 1) (chainOf (s .table .now)))
 
-left-after : (c : tie.After-around Inv-loop μ-loop) → let s = c .before .before .before .before .before .before .before .args in after (c .around .result) (Rest c) ≡ lineAt (lines (s .table .now)) (s .number)
+left-after : (c : tie.After-around Inv-loop μ-loop) →
+    let s = c .before .before .before .before .before .before .before .args in after (c .around .result) (Rest c) ≡ lineAt (lines (s .table .now)) (s .number)
 left-after c =
     let w = c .before in
     let l = w .before .before .before in
     let s = l .before .before .before in
     let n = s .pre in
-    moves _ (chainOf (s .args .table .now)) (l .loop .i) (w .index .result) _ (c .around .result) (omega (arith, n .nodes)) (taken-at _ (n .nodes) (n .listed) (l .loop .i) (w .before .before .loop-test .taken) ∙ sym (w .index .ensures))
+    moves _ (chainOf (s .args .table .now)) (l .loop .i) (w .index .result) _ (c .around .result) (omega (arith, n .nodes))
+    (taken-at _ (n .nodes) (n .listed) (l .loop .i) (w .before .before .loop-test .taken) ∙ sym (w .index .ensures))
     (c .around .ensures) (l .loop .inv .1)
 
 loop-holds : tie.Need-loop-holds Inv-loop μ-loop

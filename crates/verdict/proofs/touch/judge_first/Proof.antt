@@ -15,7 +15,10 @@ slice-aggregate-judge-lines : tie.Need-slice-aggregate-judge-lines
 slice-aggregate-judge-lines c = let s = c .before .before .before .before in sym (length-take-le (s .args .n) (s .args .lines .now) (s .pre .1))
 
 judge-lines-requires : tie.Need-judge-lines-requires
-judge-lines-requires c κs = let s = c .before .before .before .before .before .before in let e = length-take-le (s .args .n) (s .args .lines .now) (s .pre .1) in (omega arith, omega arith, omega arith)
+judge-lines-requires c κs =
+    let s = c .before .before .before .before .before .before in
+    let e = length-take-le (s .args .n) (s .args .lines .now) (s .pre .1) in
+    (omega arith, omega arith, omega arith)
 
 same-length : tie.Need-same-length
 same-length c = search needs
@@ -27,7 +30,10 @@ same-length-3 : tie.Need-same-length-3
 same-length-3 c = search needs
 
 returns : tie.Need-returns
-returns c = let s = c .before .before .before .before .before .before .before .before .before .before .before .before .before in first-moved (front (s .args .n) (s .args .lines .now)) (length-take-le (s .args .n) (s .args .lines .now) (s .pre .1)) (c .before .before .before .before .before .before .judge-lines .ensures)
+returns c =
+    let j = c .before .before .before .before .before .before in
+    let s = j .before .before .before .before .before .before .before in
+    first-moved (front (s .args .n) (s .args .lines .now)) (length-take-le (s .args .n) (s .args .lines .now) (s .pre .1)) (j .judge-lines .ensures)
 
 pub judge-first-spec : {M : Type 1} → statement M
 judge-first-spec =

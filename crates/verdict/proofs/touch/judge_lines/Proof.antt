@@ -33,7 +33,16 @@ same-length-4 : tie.Need-same-length-4
 same-length-4 c = search needs
 
 returns-2 : tie.Need-returns-2
-returns-2 c = let r = c .before .before .before .before .before .before .before .before .before .before .sort in first-moved (r .ensures .0) (r .kept .0) (inr (fails (c .before .before .before .if1 .left) (c .before .before .before .before .same-end .ensures), inl (holds (c .if2 .taken) (c .before .rises .ensures), refl)))
+returns-2 c =
+    let i1 = c .before .before .before in
+    let sa = i1 .before in
+    let so = sa .before .before .before .before .before .before in
+    let r = so .sort in
+    first-moved (r .ensures .0) (r .kept .0) (inr (
+      fails (i1 .if1 .left) (sa .same-end .ensures),
+      inl
+          (holds (c .if2 .taken) (c .before .rises .ensures), refl),
+    ))
 
 worst-meeting-requires : tie.Need-worst-meeting-requires
 worst-meeting-requires c κs = search needs
@@ -55,7 +64,8 @@ returns-3 c = let w = c .before .before .before .before .before .before .before 
     let b = c .before .before .before .before .before .before .before .before .before .before .before in
     let a = c .before .before .before .before .before .before .before .before .before .before .before .before .before .before in
     let r = c .before .before .before .before .before .before .before .before .before .before .before .before .before .before .before .before .before .before .before .before .before .sort in
-    first-moved (r .ensures .0) (r .kept .0) (worst-first (w .worst-meeting .result) (fails (a .if1 .left) (a .before .same-end .ensures)) (fails (b .if2 .left) (b .before .rises .ensures)) (w .worst-meeting .ensures) (c .worst-verdict .ensures))
+    first-moved (r .ensures .0) (r .kept .0) (worst-first (w .worst-meeting .result) (fails (a .if1 .left) (a .before .same-end .ensures))
+    (fails (b .if2 .left) (b .before .rises .ensures)) (w .worst-meeting .ensures) (c .worst-verdict .ensures))
 
 pub judge-lines-spec : {M : Type 1} → statement M
 judge-lines-spec =
