@@ -2,7 +2,8 @@
 use native.Mathlib.Omega.{arith}
 use mathlib.Core.Path.{_≡_, refl, ap, _∙_}
 use lib.ListN.{length, length-set}
-use Rattle.verdict.specs.inner.Steps.{above, LinesFromAbove}
+use Rattle.parents.specs.inner.Parents.{above}
+use Rattle.verdict.specs.inner.Steps.{LinesFromAbove}
 use Rattle.verdict.proofs.Parent.{from-above-none, from-above-more, from-above-all}
 use Prim.Native.Nat.{_≤_, _-_}
 use borrow.Author.Needs.{needs}
