@@ -45,8 +45,8 @@ module _ (t : List ℕ) (ok : fault t ≡ 0) where
   mirrored-led order l =
       record {
         long = omega (arith, l .long, ap length (exchanged-roots t ok));
-        led = λ i h. l .led i
-            (omega (arith, h, ap length (exchanged-roots t ok))) ∙ sym (ap (λ (ks : List ℕ). getD ks i 0) (exchanged-roots t ok));
+        led = λ i h.
+            l .led i (omega (arith, h, ap length (exchanged-roots t ok))) ∙ sym (ap (λ (ks : List ℕ). getD ks i 0) (exchanged-roots t ok));
       }
 
   pub wide-turned : (p : List ℕ) → 2 * records t ≤ length p → exchangedPlacements t (storeAll (drawTrees (trees (exchanged t))) p) ≡ storeAll (drawWide (trees t)) p

@@ -26,8 +26,8 @@ beside-requires c κs = search needs
 
 returns-3 : tie.Need-returns-3
 returns-3 c =
-    let a = c .before .before .before .before .before .before .before in
-    λ e s f g. let z = a in next-at (z .args .lines .now) (z .args .abreast .now) s (c .before .before .line-at .ensures)
+    let z = c .before .before .before .before .before .before .before in
+    λ e s f g. next-at (z .args .lines .now) (z .args .abreast .now) s (c .before .before .line-at .ensures)
     (c .before .line-at2 .ensures) f (c .beside .ensures e)
 
 pub beside-last-spec : {M : Type 1} → statement M

@@ -54,8 +54,7 @@ exchange-placements-requires c κs =
     let drawn = c .before .before .before .before in
     let s = drawn .before .before .before .before .before .before .before .before .before .before .before .before .before .before .before in (
       listed-few _ _ _ (s .pre .0) (s .pre .1 .1 .1 .1 .0 .0) (s .pre .1 .1 .1 .1 .1 .1),
-      listed-room _ _ _ _ (s .pre .0) (s .pre .1 .1 .1 .1 .1 .0)
-          (drawn .plan-of .kept .1 .1 .1 .1 .0) (s .pre .1 .1 .1 .1 .0 .1),
+      listed-room _ _ _ _ (s .pre .0) (s .pre .1 .1 .1 .1 .1 .0) (drawn .plan-of .kept .1 .1 .1 .1 .0) (s .pre .1 .1 .1 .1 .0 .1),
     )
 
 same-length : tie.Need-same-length

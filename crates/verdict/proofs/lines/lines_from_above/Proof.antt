@@ -42,8 +42,7 @@ point-requires c κs =
     omega (
       arith,
       c .above .ensures ∙ ap (above (s .args .up .now)) (c .before .index .ensures),
-      s .pre .0 .placed-above (l2 .loop .i)
-          (l .loop-test .taken),
+      s .pre .0 .placed-above (l2 .loop .i) (l .loop-test .taken),
     )
 
 point-requires-2 : tie.Need-point-requires-2 Inv-loop μ-loop

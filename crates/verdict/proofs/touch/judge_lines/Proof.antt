@@ -40,8 +40,7 @@ returns-2 c =
     let r = so .sort in
     first-moved (r .ensures .0) (r .kept .0) (inr (
       fails (i1 .if1 .left) (sa .same-end .ensures),
-      inl
-          (holds (c .if2 .taken) (c .before .rises .ensures), refl),
+      inl (holds (c .if2 .taken) (c .before .rises .ensures), refl),
     ))
 
 worst-meeting-requires : tie.Need-worst-meeting-requires
