@@ -15,7 +15,7 @@ use Rattle.table.specs.Table.{Side, left, right, linkOf, records, Chained, Line
 use Rattle.table.specs.Trees.{roots}
 use Rattle.table.proofs.Accepted.{records-bounds, chain-within, link-within, parent-unique, root-unnamed}
 use Rattle.table.proofs.Ends.{above-node}
-use Rattle.records.specs.inner.Steps.{Blank}
+use Rattle.chains.specs.inner.Listing.{Blank}
 use Rattle.records.specs.inner.Reading.{Nodes}
 use Rattle.records.proofs.Nodes.{node-chained, node-place, chained-below}
 use Rattle.parents.specs.inner.Parents.{Parents, above}

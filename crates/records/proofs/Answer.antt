@@ -10,7 +10,8 @@ use Rattle.records.specs.declared.Reading.{Reading}
 use Rattle.table.specs.Table.{records, chain}
 use Rattle.table.specs.Refusal.{badLength, badHead, badChain, badFree, badLinks, badTree, shortPlacements, fault, refusal}
 use Rattle.records.specs.inner.Reading.{Examined, TracedOf, ReadOf}
-use Rattle.records.specs.inner.Steps.{Shaped, Listed, Ordered, Filled}
+use Rattle.chains.specs.inner.Listing.{Shaped, Listed}
+use Rattle.trees.specs.inner.Steps.{Ordered, Filled}
 use Rattle.records.proofs.Form.{form}
 
 -- From the bytes alone.

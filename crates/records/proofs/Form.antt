@@ -8,7 +8,7 @@ use borrow.Author.Tests.{eq-eqb, ne-eqb, le-ltb}
 use lib.ListN.{length}
 use Rattle.table.specs.Table.{tagOf}
 use Rattle.table.specs.Refusal.{badLength, badHead}
-use Rattle.records.specs.inner.Steps.{Shaped}
+use Rattle.chains.specs.inner.Listing.{Shaped}
 use Rattle.table.proofs.Causes.{length-bounds}
 
 -- Causes 1 and 2, in this order.

@@ -1,28 +1,22 @@
-// Reading a table of records: the refusals, the chain, the nodes breadth first from the roots on, and the sizes of the subtrees.
-mod links;
-mod naming;
-mod reach;
-mod walk;
-pub mod words;
-pub mod writing;
-
-use crate::links::marked;
-use crate::links::strays;
-use crate::naming::list_roots;
-use crate::reach::measure;
-use crate::reach::reaches;
-use crate::walk::spoiled;
-use crate::walk::walk;
-use crate::words::left;
-use crate::words::next;
-use crate::words::tag;
+// Reading a table of records: the refusals, the chain, the nodes breadth first from the roots on, and the sizes of the subtrees. Passes on what reads and writes the
+// words of a record.
+pub use access::words;
+use access::words::next;
+use access::words::tag;
+pub use access::writing;
+use chains::spoiled;
+use chains::walk;
+use trees::grow;
+use trees::links::strays;
+use trees::reach::measure;
 ghost use mathlib.Core.Path.{_≡_};
 ghost use mathlib.Core.Bool.{cond, false};
 ghost use lib.ListN.{length};
 ghost use Rattle.table.specs.Table.{chain as chainOf};
 ghost use Rattle.table.specs.Refusal.{badLength, badHead, badLinks, refusal};
 ghost use Rattle.records.specs.inner.Reading.{Examined, TracedOf, ReadOf};
-ghost use Rattle.records.specs.inner.Steps.{Blank, Listed, Marked, Tallied, Grown};
+ghost use Rattle.chains.specs.inner.Listing.{Blank, Listed, Marked};
+ghost use Rattle.trees.specs.inner.Steps.{Tallied, Grown};
 
 // A refusal, or 0 and the number of nodes.
 pub struct Reading {
@@ -57,28 +51,6 @@ fn shape(table: &[u8]) -> u16
         return 2;
     }
     0
-}
-
-// Whether the records of the chain make trees; then lists their nodes, breadth first from the roots on, in place of how often they are named. The marks make way for the roots.
-fn grow(table: &[u8], chain: &[u16], nodes: usize, mark: &mut [u16], order: &mut [u16]) -> bool
-    requires { ⌜ Listed (now table) (chainOf (now table)) nodes (now chain) ⌝ }
-    requires { ⌜ Marked (chainOf (now table)) (now mark) ⌝ }
-    requires { ⌜ badLinks (now table) ≡ false ⌝ }
-    requires { ⌜ Tallied (now table) (now order) ⌝ }
-    ensures { λ r. ⌜ Grown (now (table .entry)) r nodes (now (order .exit)) ⌝ }
-{
-    let root = left(table, 0);
-    if root == 0 {
-        return nodes == 0;
-    }
-    if !marked(mark, root) {
-        return false;
-    }
-    let roots = list_roots(table, chain, nodes, root, order, mark);
-    if roots == 0 {
-        return false;
-    }
-    reaches(table, nodes, mark, roots, order)
 }
 
 // Causes 1 to 5 and 8, from the bytes alone. Of an accepted table, chain lists the nodes, and order lists them breadth first.

@@ -4,10 +4,10 @@ use mathlib.Core.Bool.{false}
 use borrow.Author.Tests.{not-true, not-false}
 use Rattle.table.specs.Table.{chain as chainOf}
 use Rattle.table.specs.Refusal.{badFree, badLinks}
-use Rattle.records.specs.inner.Steps.{Shaped, Listed, Marked}
+use Rattle.chains.specs.inner.Listing.{Shaped, Listed, Marked}
 use Rattle.records.proofs.Form.{shaped}
-use Rattle.records.proofs.Zeros.{blank}
-use Rattle.records.proofs.Walking.{walked-breaks, walked-listed, walked-marked, from-next}
+use Rattle.chains.proofs.Zeros.{blank}
+use Rattle.chains.proofs.Walking.{walked-breaks, walked-listed, walked-marked, from-next}
 use Rattle.records.proofs.Answer.{refused-form, refused-chain, refused-free, refused-links, refused-tree, examined}
 use borrow.Author.Needs.{needs}
 use Rattle.records.proofs.examine.Statement.{statement}

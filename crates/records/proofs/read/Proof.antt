@@ -1,8 +1,8 @@
 -- `read` answers the refusal, and lists and sizes an accepted table.
 use mathlib.Core.Path.{sym, _∙_}
 use Rattle.table.proofs.Accepted.{refusal-none}
-use Rattle.records.proofs.Rooting.{unfilled}
-use Rattle.records.proofs.Reached.{filled-chain}
+use Rattle.trees.proofs.Rooting.{unfilled}
+use Rattle.trees.proofs.Reached.{filled-chain}
 use Rattle.records.proofs.Answer.{sized, no-nodes}
 use borrow.Author.Needs.{needs}
 use Rattle.records.proofs.read.Statement.{statement}

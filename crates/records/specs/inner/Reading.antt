@@ -7,7 +7,7 @@ use Rattle.records.specs.declared.Reading.{Reading}
 use Rattle.table.specs.Table.{chain, Chained}
 use Rattle.table.specs.Tree.{size, treeAt}
 use Rattle.table.specs.Refusal.{fault, refusal}
-use Rattle.records.specs.inner.Steps.{Ordered}
+use Rattle.trees.specs.inner.Steps.{Ordered}
 
 -- n is the number of nodes, the first n numbers of list are the chain, and those of order the nodes, breadth first.
 pub record Traced (t : List ℕ) (n : ℕ) (list order : List ℕ) : Type 0 where
