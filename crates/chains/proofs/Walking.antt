@@ -111,7 +111,12 @@ module _ (t : List ℕ) (k i at : ℕ) (list mark : List ℕ) (w : Walk t k i at
     pub walk-twice : (getD mark at 0 ≡ 0 → ⊥) → Walked t k (record { broken = true; count = i }) list mark
     walk-twice m =
         broken-off t k i list mark
-        (λ s. omega (arith, one-more, repeats-count (trail t k) .0 (unbroken t (trail t k) s .0) at, member-count at (take i list) .0 (seen at on (member at (take i list)) (λ e. m (w .marks at ∙ e)))))
+        (λ s. omega (
+          arith,
+          one-more,
+          repeats-count (trail t k) .0 (unbroken t (trail t k) s .0) at,
+          member-count at (take i list) .0 (seen at on (member at (take i list)) (λ e. m (w .marks at ∙ e))),
+        ))
 
     module _ (shaped : Shaped t) (b : at < records t) (m : getD mark at 0 ≡ 0) where
       taken : take (i + 1) (set list i at) ≡ take i list ++ (at ∷ [])
@@ -131,7 +136,8 @@ module _ (t : List ℕ) (k i at : ℕ) (list mark : List ℕ) (w : Walk t k i at
       -- A member is one of the old, or the new one.
       cases : (k : ℕ) → T (member k (take i list ++ (at ∷ []))) → T (member k (take i list)) ⊎ (k ≡ at)
       unfolding member
-      cases k h = ⊎-map (λ (o : T (member k (take i list))). o) (λ (o : T (eqb k at || false)). eqb→eq k at (rw or-false at o)) (or-T (member k (take i list)) (eqb k at || false) .0 (rw member-append at h))
+      cases k h = ⊎-map (λ (o : T (member k (take i list))). o) (λ (o : T (eqb k at || false)). eqb→eq k at (rw or-false at o))
+          (or-T (member k (take i list)) (eqb k at || false) .0 (rw member-append at h))
 
       within : (k : ℕ) → T (member k (take i list ++ (at ∷ []))) → (1 ≤ k) × (k < records t)
       within k h = ⊎-elim (w .within k) (λ (e : k ≡ at). omega (arith, on)) (cases k h)

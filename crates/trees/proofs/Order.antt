@@ -107,7 +107,12 @@ module _ (t : List ℕ) (r : Rooted t) where
 
     pub queue-step : Queue t (h + 1) ((o ++ present (leftOf t (getD o h 0) ∷ [])) ++ present (rightOf t (getD o h 0) ∷ []))
     unfolding grown
-    queue-step = rw add-one (record { listed = listed ∙ ap (λ (l : List ℕ). roots t ++ present (links t l)) (sym (kept (suc h) lt)); early = early; within = rw listed (family (take (suc h) o) (λ k. omega (arith, take-within (suc h) o k, q .within k))) })
+    queue-step = rw add-one
+        (record {
+          listed = listed ∙ ap (λ (l : List ℕ). roots t ++ present (links t l)) (sym (kept (suc h) lt));
+          early = early;
+          within = rw listed (family (take (suc h) o) (λ k. omega (arith, take-within (suc h) o k, q .within k)));
+        })
 
   queue-length : (h : ℕ) (o : List ℕ) → Queue t h o → length o < 4097
   queue-length h o q = omega (arith, length-within o (chain t) (q .within), sound-length t (r .shaped .whole) (r .sound), r .shaped .room)

@@ -78,7 +78,8 @@ module _ (t : List ℕ) (r : Rooted t) (o : List ℕ) (q : Queue t (length o) o)
   level : (n i : ℕ) → i < n → i < length o → T (member (getD o i 0) (nodesOf (trees t)))
   level zero i l h = absurd (omega arith)
   level (suc n) i l h =
-      ⊎-elim (λ (m : T (member (getD o i 0) (roots t))). in-trees (getD o i 0) (sound-within t (r .sound) (getD o i 0) (roots-chained t (r .root) (getD o i 0) m) .0) (omega (arith, member-count (getD o i 0) (roots t) .0 m)))
+      ⊎-elim (λ (m : T (member (getD o i 0) (roots t))). in-trees (getD o i 0)
+      (sound-within t (r .sound) (getD o i 0) (roots-chained t (r .root) (getD o i 0) m) .0) (omega (arith, member-count (getD o i 0) (roots t) .0 m)))
       (λ e. rw (← (e .4))
       (in-trees (linkOf t (e .1) (getD o (e .0) 0)) (e .3)
       (omega (arith, names t (linkOf t (e .1) (getD o (e .0) 0)) (getD o (e .0) 0) (e .1) (nodesOf (trees t)) (level n (e .0) (omega (arith, e .2)) (omega (arith, e .2))) refl))))
@@ -139,9 +140,14 @@ module _ (t order : List ℕ) (m n : ℕ) (r : Rooted t) (long : length order �
       go false d = (missed (eqb-false m n d), λ y. absurd (false≢true y))
 
 -- What is filled for a whole order is filled for the chain.
-pub filled-chain : (t order : List ℕ) (n : ℕ) → n ≤ length order → Queue t n (take n order) → n ≡ length (chain t) → (sizes : List ℕ) → Filled t (take n order) sizes → Filled t (chain t) sizes
+pub filled-chain : (t order : List ℕ) (n : ℕ) → n ≤ length order → Queue t n (take n order) → n ≡ length (chain t) →
+    (sizes : List ℕ) → Filled t (take n order) sizes → Filled t (chain t) sizes
 filled-chain t order n long q nodes sizes f = record {
   long = f .long;
-  sized = λ k h. f .sized k (member-count k (take n order) .1 (omega (arith, member-count k (chain t) .0 h, within-back (take n order) (chain t) (q .within) (omega (arith, length-take-le n order long)) k)));
+  sized = λ k h. f .sized k (member-count k (take n order) .1 (omega (
+    arith,
+    member-count k (chain t) .0 h,
+    within-back (take n order) (chain t) (q .within) (omega (arith, length-take-le n order long)) k,
+  )));
   none = f .none;
 }

@@ -89,13 +89,15 @@ module _ (t list : List ℕ) (n : ℕ) (l : Listed t (chain t) n list) (root : �
     }
 
     pub note-step : (found after : List ℕ) (count r i : ℕ) → Noting t list n found count i → i < n → getD tally (getD list i 0) 0 ≤ 1 →
-        r ≡ count + length (select (startsByTally root tally) (getD list i 0 ∷ [])) → take r after ≡ take count found ++ select (startsByTally root tally) (getD list i 0 ∷ []) → length after ≡ 4097 →
+        r ≡ count + length (select (startsByTally root tally) (getD list i 0 ∷ [])) →
+        take r after ≡ take count found ++ select (startsByTally root tally) (getD list i 0 ∷ []) → length after ≡ 4097 →
         Noting t list n after r (i + 1)
     unfolding startsTree startsByTally
     note-step found after count r i g h one d f long = record {
       ahead = omega arith;
       once = below-more _ _ (g .once) (le-ltb 1 (named t (getD list i 0)) (omega (arith, tallied i h)));
-      listed = f ∙ ap (λ (ks : List ℕ). ks ++ select (startsByTally root tally) (getD list i 0 ∷ [])) (g .listed) ∙ ap (λ (ks : List ℕ). rootOf t ∷ (select (startsTree t) (take i list) ++ ks)) alike-here
+      listed = f ∙ ap (λ (ks : List ℕ). ks ++ select (startsByTally root tally) (getD list i 0 ∷ [])) (g .listed)
+          ∙ ap (λ (ks : List ℕ). rootOf t ∷ (select (startsTree t) (take i list) ++ ks)) alike-here
           ∙ ap (λ (ks : List ℕ). rootOf t ∷ ks) (sym (ap (select (startsTree t)) next ∙ select-append (startsTree t) (take i list) (getD list i 0 ∷ [])));
       some = omega (arith, g .some);
       few = omega (arith, g .few, few-passed (startsByTally root tally) (getD list i 0));

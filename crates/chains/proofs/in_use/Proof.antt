@@ -34,7 +34,10 @@ unfolding occupied
 tag-left t k l r g a b c d e = rw (eq-eqb (leftOf t k) 0 (sym b ∙ a), eq-eqb (rightOf t k) 0 (sym d ∙ c), e)
 
 returns-3 : tie.Need-returns-3
-returns-3 c = tag-left _ _ _ _ _ (c .before .before .before .if1 .left) (c .before .before .before .before .left .ensures .0) (c .before .if2 .left) (c .before .before .right .ensures .0) (c .tag .ensures .0)
+returns-3 c =
+    let at-if1 = c .before .before .before in
+    let at-left = at-if1 .before in
+    tag-left _ _ _ _ _ (at-if1 .if1 .left) (at-left .left .ensures .0) (c .before .if2 .left) (c .before .before .right .ensures .0) (c .tag .ensures .0)
 
 pub in-use-spec : {M : Type 1} → statement M
 in-use-spec =

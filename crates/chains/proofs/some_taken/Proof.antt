@@ -40,14 +40,22 @@ marked-requires c κs = search needs
 
 returns : tie.Need-returns Inv-loop μ-loop
 returns c =
-    let e = marked-by _ _ _ _ (free-record _ _ _ (c .before .before .before .before .before .before .before .before .pre .0) _ (c .before .before .before .loop-test .taken)) (c .before .before .before .before .before .before .before .before .pre .1) (c .before .marked .ensures) in
-    sym (scan-hit _ _ _ _ (c .before .before .before .before .before .before .before .before .pre .0) (taken (c .before .before .before .before .before .before .before .before .args .table .now)) _ (c .before .before .before .loop-test .taken) (rw (sym e ∙ c .if1 .taken)))
+    let test = c .before .before .before in
+    let start = test .before .before .before .before .before in
+    let e = marked-by _ _ _ _ (free-record _ _ _ (start .pre .0) _ (test .loop-test .taken)) (start .pre .1) (c .before .marked .ensures) in
+    sym (scan-hit _ _ _ _ (start .pre .0) (taken (start .args .table .now)) _ (test .loop-test .taken) (rw (sym e ∙ c .if1 .taken)))
 
 in-use-requires : tie.Need-in-use-requires Inv-loop μ-loop
-in-use-requires c κs = listed-inside _ _ _ _ (c .before .before .before .before .before .before .before .before .pre .0) _ (c .before .before .before .loop-test .taken)
+in-use-requires c κs =
+    let test = c .before .before .before in
+    let start = test .before .before .before .before .before in
+    listed-inside _ _ _ _ (start .pre .0) _ (test .loop-test .taken)
 
 returns-2 : tie.Need-returns-2 Inv-loop μ-loop
-returns-2 c = sym (scan-hit _ _ _ _ (c .before .before .before .before .before .before .before .before .before .before .pre .0) (taken (c .before .before .before .before .before .before .before .before .before .before .args .table .now)) _ (c .before .before .before .before .before .loop-test .taken) (rw (sym (c .before .in-use .ensures) ∙ c .if2 .taken, or-true)))
+returns-2 c =
+    let test = c .before .before .before .before .before in
+    let start = test .before .before .before .before .before in
+    sym (scan-hit _ _ _ _ (start .pre .0) (taken (start .args .table .now)) _ (test .loop-test .taken) (rw (sym (c .before .in-use .ensures) ∙ c .if2 .taken, or-true)))
 
 add-i : tie.Need-add-i Inv-loop μ-loop
 add-i c = search needs
@@ -57,11 +65,17 @@ loop-less c = search needs
 
 loop-again : tie.Need-loop-again Inv-loop μ-loop
 loop-again c =
-    let e = marked-by _ _ _ _ (free-record _ _ _ (c .before .before .before .before .before .before .before .before .before .before .pre .0) _ (c .before .before .before .before .before .loop-test .taken)) (c .before .before .before .before .before .before .before .before .before .before .pre .1) (c .before .before .before .marked .ensures) in
-    (omega arith, below-more _ _ (c .before .before .before .before .before .before .loop .inv .1) (rw (sym e ∙ c .before .before .if1 .left, sym (c .before .in-use .ensures) ∙ c .if2 .left)))
+    let at-marked = c .before .before .before in
+    let test = at-marked .before .before in
+    let head = test .before in
+    let start = head .before .before .before .before in
+    let e = marked-by _ _ _ _ (free-record _ _ _ (start .pre .0) _ (test .loop-test .taken)) (start .pre .1) (at-marked .marked .ensures) in
+    (omega arith, below-more _ _ (head .loop .inv .1) (rw (sym e ∙ c .before .before .if1 .left, sym (c .before .in-use .ensures) ∙ c .if2 .left)))
 
 returns-3 : tie.Need-returns-3 Inv-loop μ-loop
-returns-3 c = sym (scan-none _ _ _ _ (c .before .before .before .before .before .pre .0) (taken (c .before .before .before .before .before .args .table .now)) (λ j h. c .before .loop .inv .1 j (omega arith)))
+returns-3 c =
+    let start = c .before .before .before .before .before in
+    sym (scan-none _ _ _ _ (start .pre .0) (taken (start .args .table .now)) (λ j h. c .before .loop .inv .1 j (omega arith)))
 
 pub some-taken-spec : {M : Type 1} → statement M
 some-taken-spec =

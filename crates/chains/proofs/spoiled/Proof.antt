@@ -23,21 +23,34 @@ slice-aggregate-walk-2 : tie.Need-slice-aggregate-walk-2
 slice-aggregate-walk-2 c = search needs
 
 walk-requires : tie.Need-walk-requires
-walk-requires c κs = (c .before .before .before .before .before .before .pre .0, (c .before .before .before .right .ensures .1, (length-replicate {A = ℕ} 4097 0, blank)))
+walk-requires c κs =
+    let at-right = c .before .before .before in
+    let start = at-right .before .before .before in
+    (start .pre .0, (at-right .right .ensures .1, (length-replicate {A = ℕ} 4097 0, blank)))
 
 returns-2 : tie.Need-returns-2
 unfolding badFree
-returns-2 c = rw (sym (walked-breaks _ _ _ _ _ (c .before .before .before .walk .ensures) _ (from-right _ _ (c .before .before .before .before .before .before .before .right .ensures .0))) ∙ c .if2 .taken)
+returns-2 c =
+    let at-walk = c .before .before .before in
+    let at-right = at-walk .before .before .before .before in
+    rw (sym (walked-breaks _ _ _ _ _ (at-walk .walk .ensures) _ (from-right _ _ (at-right .right .ensures .0))) ∙ c .if2 .taken)
 
 slice-aggregate-some-taken : tie.Need-slice-aggregate-some-taken
 slice-aggregate-some-taken c = search needs
 
 some-taken-requires : tie.Need-some-taken-requires
-some-taken-requires c κs = (walked-listed _ _ _ _ _ (c .before .before .before .before .walk .ensures) _ (from-right _ _ (c .before .before .before .before .before .before .before .before .right .ensures .0)) (c .before .if2 .left), c .before .before .before .before .before .before .before .before .before .before .before .pre .1)
+some-taken-requires c κs =
+    let at-walk = c .before .before .before .before in
+    let at-right = at-walk .before .before .before .before in
+    let start = at-right .before .before .before in
+    (walked-listed _ _ _ _ _ (at-walk .walk .ensures) _ (from-right _ _ (at-right .right .ensures .0)) (c .before .if2 .left), start .pre .1)
 
 returns-3 : tie.Need-returns-3
 unfolding badFree
-returns-3 c = rw (sym (walked-breaks _ _ _ _ _ (c .before .before .before .before .before .walk .ensures) _ (from-right _ _ (c .before .before .before .before .before .before .before .before .before .right .ensures .0))) ∙ c .before .before .if2 .left) (c .some-taken .ensures)
+returns-3 c =
+    let at-walk = c .before .before .before .before .before in
+    let at-right = at-walk .before .before .before .before in
+    rw (sym (walked-breaks _ _ _ _ _ (at-walk .walk .ensures) _ (from-right _ _ (at-right .right .ensures .0))) ∙ c .before .before .if2 .left) (c .some-taken .ensures)
 
 pub spoiled-spec : {M : Type 1} → statement M
 spoiled-spec =

@@ -16,7 +16,9 @@ slice-write-mark : tie.Need-slice-write-mark Inv-loop μ-loop
 slice-write-mark c = omega arith
 
 loop-holds : tie.Need-loop-holds Inv-loop μ-loop
-loop-holds c = walk-start _ _ _ _ (c .before .before .before .pre .0) (c .before .before .before .pre .1 .1 .0) (c .before .before .before .pre .1 .1 .1) (c .before .before .before .pre .1 .0)
+loop-holds c =
+    let start = c .before .before .before in
+    walk-start _ _ _ _ (start .pre .0) (start .pre .1 .1 .0) (start .pre .1 .1 .1) (start .pre .1 .0)
 
 same-length : tie.Need-same-length Inv-loop μ-loop
 same-length c = omega arith
@@ -67,7 +69,14 @@ loop-less : tie.Need-loop-less Inv-loop μ-loop
 loop-less c = omega arith
 
 loop-again : tie.Need-loop-again Inv-loop μ-loop
-loop-again c = rw (c .next .ensures .0) (walk-step _ _ _ _ _ _ (c .before .before .before .before .before .loop .inv) (c .before .before .before .before .loop-test .taken) (c .before .before .before .before .before .before .before .before .before .pre .0) (omega (arith, c .before .before .before .if1 .left)) (omega (arith, c .before .if2 .left)) (omega (arith, c .next .ensures .1)))
+loop-again c =
+    let at-if1 = c .before .before .before in
+    let test = at-if1 .before in
+    let head = test .before in
+    let start = head .before .before .before .before in
+    rw (c .next .ensures .0)
+    (walk-step _ _ _ _ _ _ (head .loop .inv) (test .loop-test .taken) (start .pre .0)
+    (omega (arith, at-if1 .if1 .left)) (omega (arith, c .before .if2 .left)) (omega (arith, c .next .ensures .1)))
 
 same-length-5 : tie.Need-same-length-5 Inv-loop μ-loop
 same-length-5 c = omega arith

@@ -32,18 +32,25 @@ returns-2 : tie.Need-returns-2
 returns-2 c =
     let first = c .before .before .before .before in
     let s = first .before .before .before .before .before in
-    grown-bad _ _ _ (off-chain _ _ (first .left .ensures .0) (c .before .before .before .if1 .left) (sym (marked-by _ _ _ _ (c .before .before .before .if1 .left) (s .pre .1 .0) (c .before .marked .ensures)) ∙ not-true _ (c .if2 .taken)))
+    grown-bad _ _ _ (off-chain _ _ (first .left .ensures .0) (c .before .before .before .if1 .left)
+    (sym (marked-by _ _ _ _ (c .before .before .before .if1 .left) (s .pre .1 .0) (c .before .marked .ensures)) ∙ not-true _ (c .if2 .taken)))
 
 -- Past the second test the head's root is on the chain, and past the third no node is named wrongly.
-on-chain : (c : tie.Else2) → member (c .before .before .before .before .left .result) (chainOf (c .before .before .before .before .before .before .before .before .before .args .table .now)) ≡ true
-on-chain c = sym (marked-by _ _ _ _ (c .before .before .before .if1 .left) (c .before .before .before .before .before .before .before .before .before .pre .1 .0) (c .before .marked .ensures)) ∙ not-false _ (c .if2 .left)
+on-chain : (c : tie.Else2) →
+    let first = c .before .before .before .before in
+    member (first .left .result) (chainOf (first .before .before .before .before .before .args .table .now)) ≡ true
+on-chain c =
+    let at-if1 = c .before .before .before in
+    let start = at-if1 .before .before .before .before .before .before in
+    sym (marked-by _ _ _ _ (at-if1 .if1 .left) (start .pre .1 .0) (c .before .marked .ensures)) ∙ not-false _ (c .if2 .left)
 
 well-rooted : (c : tie.Else3) → Rooted (c .before .before .before .before .before .before .before .before .before .before .before .before .before .before .before .args .table .now)
 well-rooted c =
     let found = c .before .before .before in
     let m = found .before .before .before in
     let s = m .before .before .before .before .before .before .before .before .before in
-    rooted _ _ (m .before .before .before .before .left .ensures .0) (m .before .before .before .if1 .left) (on-chain m) (found .list-roots .ensures .well (c .if3 .left)) (s .pre .0 .shaped) (s .pre .0 .sound) (s .pre .1 .1 .0)
+    rooted _ _ (m .before .before .before .before .left .ensures .0) (m .before .before .before .if1 .left) (on-chain m)
+    (found .list-roots .ensures .well (c .if3 .left)) (s .pre .0 .shaped) (s .pre .0 .sound) (s .pre .1 .1 .0)
 
 list-roots-requires : tie.Need-list-roots-requires
 list-roots-requires c κs =

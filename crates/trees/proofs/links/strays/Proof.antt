@@ -47,33 +47,58 @@ marked-requires : tie.Need-marked-requires Inv-loop μ-loop
 marked-requires c κs = search needs
 
 same-length : tie.Need-same-length Inv-loop μ-loop
-same-length c = c .before .before .before .before .before .before .loop .inv .2 .long ∙ sym (c .before .before .before .before .before .before .before .before .before .before .before .pre .1 .1 .long)
+same-length c =
+    let head = c .before .before .before .before .before .before in
+    let start = head .before .before .before .before .before in
+    head .loop .inv .2 .long ∙ sym (start .pre .1 .1 .long)
 
 returns : tie.Need-returns Inv-loop μ-loop
 unfolding badLinks
 returns c =
-    let e : stray (c .before .before .before .before .before .before .before .before .before .before .before .args .table .now) _ ≡ true = stray-by _ _ _ (c .before .before .before .before .before .before .before .before .before .before .before .pre .0) _ (c .before .before .before .before .before .before .before .before .before .before .before .pre .1 .0) _ _ _ _ (c .if1 .taken) (c .before .marked .ensures) (c .before .before .before .left .ensures .0) in
-    (sym (scan-hit _ _ _ _ (c .before .before .before .before .before .before .before .before .before .before .before .pre .0) (strayed (c .before .before .before .before .before .before .before .before .before .before .before .args .table .now)) _ (c .before .before .before .before .before .loop-test .taken) (rw e)), λ z. absurd (true≢false z))
+    let at-left = c .before .before .before in
+    let test = at-left .before .before in
+    let start = test .before .before .before .before .before .before in
+    let e : stray (start .args .table .now) _ ≡ true =
+    stray-by _ _ _ (start .pre .0) _ (start .pre .1 .0) _ _ _ _ (c .if1 .taken) (c .before .marked .ensures) (at-left .left .ensures .0) in
+    (sym (scan-hit _ _ _ _ (start .pre .0) (strayed (start .args .table .now)) _ (test .loop-test .taken) (rw e)), λ z. absurd (true≢false z))
 
 marked-requires-2 : tie.Need-marked-requires-2 Inv-loop μ-loop
 marked-requires-2 c κs = search needs
 
 same-length-2 : tie.Need-same-length-2 Inv-loop μ-loop
-same-length-2 c = c .before .before .before .before .before .before .before .before .loop .inv .2 .long ∙ sym (c .before .before .before .before .before .before .before .before .before .before .before .before .before .pre .1 .1 .long)
+same-length-2 c =
+    let head = c .before .before .before .before .before .before .before .before in
+    let start = head .before .before .before .before .before in
+    head .loop .inv .2 .long ∙ sym (start .pre .1 .1 .long)
 
 returns-2 : tie.Need-returns-2 Inv-loop μ-loop
 unfolding badLinks
 returns-2 c =
-    let e : stray (c .before .before .before .before .before .before .before .before .before .before .before .before .before .args .table .now) _ ≡ true = stray-by _ _ _ (c .before .before .before .before .before .before .before .before .before .before .before .before .before .pre .0) _ (c .before .before .before .before .before .before .before .before .before .before .before .before .before .pre .1 .0) _ _ _ _ (c .if2 .taken) (c .before .marked2 .ensures) (c .before .before .before .before .right .ensures .0) in
-    (sym (scan-hit _ _ _ _ (c .before .before .before .before .before .before .before .before .before .before .before .before .before .pre .0) (strayed (c .before .before .before .before .before .before .before .before .before .before .before .before .before .args .table .now)) _ (c .before .before .before .before .before .before .before .loop-test .taken) (rw (e, or-true))), λ z. absurd (true≢false z))
+    let at-right = c .before .before .before .before in
+    let test = at-right .before .before .before in
+    let start = test .before .before .before .before .before .before in
+    let e : stray (start .args .table .now) _ ≡ true =
+    stray-by _ _ _ (start .pre .0) _ (start .pre .1 .0) _ _ _ _ (c .if2 .taken) (c .before .marked2 .ensures) (at-right .right .ensures .0) in
+    (sym (scan-hit _ _ _ _ (start .pre .0) (strayed (start .args .table .now)) _ (test .loop-test .taken) (rw (e, or-true))), λ z. absurd (true≢false z))
 
 tick-requires : tie.Need-tick-requires Inv-loop μ-loop
-tick-requires c κs = omega (arith, counts-few _ _ (c .before .before .before .before .before .before .left .result) (c .before .before .before .before .before .before .before .before .before .loop .inv .2), links-few _ _ _ (c .before .before .before .before .before .before .before .before .before .before .before .before .before .before .pre .0) (c .before .before .before .before .before .before .before .before .before .loop .i) (c .before .before .before .before .before .before .before .before .loop-test .taken))
+tick-requires c κs =
+    let at-left = c .before .before .before .before .before .before in
+    let test = at-left .before .before in
+    let head = test .before in
+    let start = head .before .before .before .before .before in
+    omega (arith, counts-few _ _ (at-left .left .result) (head .loop .inv .2), links-few _ _ _ (start .pre .0) (head .loop .i) (test .loop-test .taken))
 
 tick-requires-2 : tie.Need-tick-requires-2 Inv-loop μ-loop
 tick-requires-2 c κs =
-    let ks = links (c .before .before .before .before .before .before .before .before .before .before .before .before .before .before .before .before .before .before .args .table .now) (take (c .before .before .before .before .before .before .before .before .before .before .before .before .before .loop .i) (c .before .before .before .before .before .before .before .before .before .before .before .before .before .before .before .before .before .before .args .chain .now)) in
-    omega (arith, counts-few-more ks _ _ (c .before .before .before .before .before .before .before .before .before .right .result) (counts-more ks _ _ _ (c .before .before .before .before .before .before .before .before .before .before .before .before .before .loop .inv .2) (c .before .before .before .tick .ensures)), links-few _ _ _ (c .before .before .before .before .before .before .before .before .before .before .before .before .before .before .before .before .before .before .pre .0) (c .before .before .before .before .before .before .before .before .before .before .before .before .before .loop .i) (c .before .before .before .before .before .before .before .before .before .before .before .before .loop-test .taken))
+    let at-tick = c .before .before .before in
+    let at-right = at-tick .before .before .before .before .before .before in
+    let test = at-right .before .before .before in
+    let head = test .before in
+    let start = head .before .before .before .before .before in
+    let ks = links (start .args .table .now) (take (head .loop .i) (start .args .chain .now)) in
+    let once = counts-more ks _ _ _ (head .loop .inv .2) (at-tick .tick .ensures) in
+    omega (arith, counts-few-more ks _ _ (at-right .right .result) once, links-few _ _ _ (start .pre .0) (head .loop .i) (test .loop-test .taken))
 
 add-i : tie.Need-add-i Inv-loop μ-loop
 add-i c = search needs
@@ -83,12 +108,23 @@ loop-less c = search needs
 
 loop-again : tie.Need-loop-again Inv-loop μ-loop
 loop-again c =
-    let t = c .before .before .before .before .before .before .before .before .before .before .before .before .before .before .before .before .before .before .before .before .before .args .table .now in
-    let d : stray t _ ≡ false = stray-by _ _ _ (c .before .before .before .before .before .before .before .before .before .before .before .before .before .before .before .before .before .before .before .before .before .pre .0) _ (c .before .before .before .before .before .before .before .before .before .before .before .before .before .before .before .before .before .before .before .before .before .pre .1 .0) _ _ _ _ (c .before .before .before .before .before .before .before .before .before .before .if1 .left) (c .before .before .before .before .before .before .before .before .before .before .before .marked .ensures) (c .before .before .before .before .before .before .before .before .before .before .before .before .before .left .ensures .0) in
-    let e : stray t _ ≡ false = stray-by _ _ _ (c .before .before .before .before .before .before .before .before .before .before .before .before .before .before .before .before .before .before .before .before .before .pre .0) _ (c .before .before .before .before .before .before .before .before .before .before .before .before .before .before .before .before .before .before .before .before .before .pre .1 .0) _ _ _ _ (c .before .before .before .before .before .before .before .before .if2 .left) (c .before .before .before .before .before .before .before .before .before .marked2 .ensures) (c .before .before .before .before .before .before .before .before .before .before .before .before .right .ensures .0) in (
+    let at-tick = c .before .before .before .before .before .before in
+    let at-if2 = at-tick .before .before in
+    let at-marked2 = at-if2 .before in
+    let at-if1 = at-marked2 .before in
+    let at-marked = at-if1 .before in
+    let at-right = at-marked .before in
+    let at-left = at-right .before in
+    let test = at-left .before .before in
+    let head = test .before in
+    let start = head .before .before .before .before .before in
+    let t = start .args .table .now in
+    let d : stray t _ ≡ false = stray-by _ _ _ (start .pre .0) _ (start .pre .1 .0) _ _ _ _ (at-if1 .if1 .left) (at-marked .marked .ensures) (at-left .left .ensures .0) in
+    let e : stray t _ ≡ false = stray-by _ _ _ (start .pre .0) _ (start .pre .1 .0) _ _ _ _ (at-if2 .if2 .left) (at-marked2 .marked2 .ensures) (at-right .right .ensures .0) in (
       omega arith,
-      below-more _ _ (c .before .before .before .before .before .before .before .before .before .before .before .before .before .before .before .before .loop .inv .1) (rw (d, e)),
-      rw (links-more _ _ _ (c .before .before .before .before .before .before .before .before .before .before .before .before .before .before .before .before .before .before .before .before .before .pre .0) (c .before .before .before .before .before .before .before .before .before .before .before .before .before .before .before .before .loop .i) (c .before .before .before .before .before .before .before .before .before .before .before .before .before .before .before .loop-test .taken), ← (c .before .before .before .before .before .before .before .before .before .before .before .before .before .left .ensures .0), ← (c .before .before .before .before .before .before .before .before .before .before .before .before .right .ensures .0)) (counts-more _ _ _ _ (counts-more _ _ _ _ (c .before .before .before .before .before .before .before .before .before .before .before .before .before .before .before .before .loop .inv .2) (c .before .before .before .before .before .before .tick .ensures)) (c .before .before .tick2 .ensures)),
+      below-more _ _ (head .loop .inv .1) (rw (d, e)),
+      rw (links-more _ _ _ (start .pre .0) (head .loop .i) (test .loop-test .taken), ← (at-left .left .ensures .0), ← (at-right .right .ensures .0))
+          (counts-more _ _ _ _ (counts-more _ _ _ _ (head .loop .inv .2) (at-tick .tick .ensures)) (c .before .before .tick2 .ensures)),
     )
 
 same-length-3 : tie.Need-same-length-3 Inv-loop μ-loop
@@ -96,10 +132,12 @@ same-length-3 c = c .before .loop .inv .2 .long ∙ sym (c .before .before .befo
 
 returns-3 : tie.Need-returns-3 Inv-loop μ-loop
 unfolding badLinks
-returns-3 c = (
-  sym (scan-none _ _ _ _ (c .before .before .before .before .before .before .pre .0) (strayed (c .before .before .before .before .before .before .args .table .now)) (λ j h. c .before .loop .inv .1 j (omega arith))),
-  λ z. counted-all _ _ _ (c .before .before .before .before .before .before .pre .0) _ (c .before .loop .i) (omega (arith, c .before .loop .inv .0, c .loop-test .left)) (c .before .loop .inv .2),
-)
+returns-3 c =
+    let head = c .before in
+    let start = head .before .before .before .before .before in (
+      sym (scan-none _ _ _ _ (start .pre .0) (strayed (start .args .table .now)) (λ j h. head .loop .inv .1 j (omega arith))),
+      λ z. counted-all _ _ _ (start .pre .0) _ (head .loop .i) (omega (arith, head .loop .inv .0, c .loop-test .left)) (head .loop .inv .2),
+    )
 
 pub strays-spec : {M : Type 1} → statement M
 strays-spec =

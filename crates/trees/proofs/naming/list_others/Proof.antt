@@ -36,12 +36,15 @@ shared-slice-read-if1 c =
     omega (arith, listed-inside _ _ _ _ (s .pre .0) _ (c .before .before .loop-test .taken), s .pre .0 .shaped .room, s .pre .1 .1 .1 .0 .long)
 
 same-length : tie.Need-same-length Inv-loop μ-loop
-same-length c = let s = c .before .before .before .before .before .before .before .before .before in c .before .before .before .before .loop .inv .long ∙ sym (s .pre .1 .1 .1 .1 .0)
+same-length c =
+    let head = c .before .before .before .before in
+    let s = c .before .before .before .before .before .before .before .before .before in head .loop .inv .long ∙ sym (s .pre .1 .1 .1 .1 .0)
 
 returns : tie.Need-returns Inv-loop μ-loop
 returns c =
+    let test = c .before .before .before in
     let s = c .before .before .before .before .before .before .before .before .before in
-    note-twice _ _ _ (s .pre .0) _ (s .pre .1 .0) (s .pre .1 .1 .0) _ (s .pre .1 .1 .1 .0) _ _ (c .before .before .before .loop-test .taken) (omega (arith, c .if1 .taken))
+    note-twice _ _ _ (s .pre .0) _ (s .pre .1 .0) (s .pre .1 .1 .0) _ (s .pre .1 .1 .1 .0) _ _ (test .loop-test .taken) (omega (arith, c .if1 .taken))
 
 add-root-requires : tie.Need-add-root-requires Inv-loop μ-loop
 add-root-requires c κs =
@@ -49,8 +52,13 @@ add-root-requires c κs =
     let l = known .before .before in
     let s = l .before .before .before .before .before in
     let h = listed-inside _ _ _ _ (s .pre .0) _ (known .before .loop-test .taken) in
-    let few = nodes-few _ _ _ (s .pre .0) _ (s .pre .1 .0) (s .pre .1 .1 .0) in
-    ((omega (arith, h, s .pre .0 .shaped .room, s .pre .1 .1 .1 .0 .long, known .before .loop-test .taken, few), omega (arith, h, s .pre .0 .shaped .room, known .before .loop-test .taken, few)), omega (arith, l .loop .inv .few, l .loop .inv .long, known .before .loop-test .taken, few))
+    let few = nodes-few _ _ _ (s .pre .0) _ (s .pre .1 .0) (s .pre .1 .1 .0) in (
+      (
+        omega (arith, h, s .pre .0 .shaped .room, s .pre .1 .1 .1 .0 .long, known .before .loop-test .taken, few),
+        omega (arith, h, s .pre .0 .shaped .room, known .before .loop-test .taken, few),
+      ),
+      omega (arith, l .loop .inv .few, l .loop .inv .long, known .before .loop-test .taken, few),
+    )
 
 add-i : tie.Need-add-i Inv-loop μ-loop
 add-i c =
@@ -67,7 +75,8 @@ loop-again c =
     let test = found .before .before in
     let t = test .before .before .before in
     let s = t .before .before .before .before .before .before in
-    note-step _ _ _ (s .pre .0) _ (s .pre .1 .0) (s .pre .1 .1 .0) _ (s .pre .1 .1 .1 .0) _ _ _ _ _ (t .before .loop .inv) (t .loop-test .taken) (test .if1 .left) (found .add-root .ensures .0) (found .add-root .ensures .1)
+    note-step _ _ _ (s .pre .0) _ (s .pre .1 .0) (s .pre .1 .1 .0) _ (s .pre .1 .1 .1 .0) _ _ _ _ _
+    (t .before .loop .inv) (t .loop-test .taken) (test .if1 .left) (found .add-root .ensures .0) (found .add-root .ensures .1)
     (found .add-root .kept .1 .1 .1 .0 ∙ t .before .loop .inv .long)
 
 same-length-2 : tie.Need-same-length-2 Inv-loop μ-loop

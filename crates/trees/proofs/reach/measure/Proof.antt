@@ -76,12 +76,16 @@ summed : (c : tie.After-slice-known3 Inv-loop μ-loop) →
     let sum = 1 + getD (l .loop .sizes) (c .before .before .before .left .result) 0 + getD (l .loop .sizes) (c .before .right .result) 0 in
     (sum ≡ size (treeAt (a .table .now) (getD (a .order .now) (l .loop .i - 1) 0))) × (sum < 4097)
 summed c =
+    let at-left = c .before .before .before in
+    let test = at-left .before .before in
     let l = c .before .before .before .before .before .before in
     let s = l .before .before .before .before in
-    fill-sum _ _ _ (s .pre .0) (s .pre .1 .0 .0) (s .pre .1 .0 .1) _ (omega arith) _ (fill-back _ _ _ _ (c .before .before .before .before .before .loop-test .taken) (l .loop .inv .1)) _ _
-    (c .before .before .before .left .ensures .0) (c .before .right .ensures .0)
+    fill-sum _ _ _ (s .pre .0) (s .pre .1 .0 .0) (s .pre .1 .0 .1) _ (omega arith) _ (fill-back _ _ _ _ (test .loop-test .taken) (l .loop .inv .1)) _ _
+    (at-left .left .ensures .0) (c .before .right .ensures .0)
 
-stored : (c : tie.After-slice-known3 Inv-loop μ-loop) → let l = c .before .before .before .before .before .before in getD (l .before .before .before .before .args .order .now) (l .loop .i - 1) 0 < 4097
+stored : (c : tie.After-slice-known3 Inv-loop μ-loop) →
+    let l = c .before .before .before .before .before .before in
+    getD (l .before .before .before .before .args .order .now) (l .loop .i - 1) 0 < 4097
 stored c =
     let l = c .before .before .before .before .before .before in
     let s = l .before .before .before .before in
@@ -107,10 +111,11 @@ loop-less c = omega arith
 
 loop-again : tie.Need-loop-again Inv-loop μ-loop
 loop-again c =
+    let test = c .before .before .before .before .before in
     let l = c .before .before .before .before .before .before in
     let s = l .before .before .before .before in (
       omega arith,
-      fill-step _ _ _ (s .pre .0) (s .pre .1 .0 .0) (s .pre .1 .0 .1) _ (omega arith) _ (fill-back _ _ _ _ (c .before .before .before .before .before .loop-test .taken) (l .loop .inv .1)) _ (summed c .0),
+      fill-step _ _ _ (s .pre .0) (s .pre .1 .0 .0) (s .pre .1 .0 .1) _ (omega arith) _ (fill-back _ _ _ _ (test .loop-test .taken) (l .loop .inv .1)) _ (summed c .0),
     )
 
 same-length : tie.Need-same-length Inv-loop μ-loop
