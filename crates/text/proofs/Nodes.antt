@@ -17,7 +17,8 @@ use Rattle.text.specs.Text.{nodeLine, nodeLines}
 use Rattle.fields.specs.inner.Put.{Put}
 use Rattle.fields.proofs.Puts.{put-then, put-length}
 
-pub put-node : (t p : List ℕ) (k g : ℕ) {a b c : List ℕ} {i j r : ℕ} → g ≡ tagOf t k → Put (decimal k) a i j b → Put (fields (getD p (2 * k) 0 ∷ getD p (2 * k + 1) 0 ∷ g ∷ [])) b j r c → Put (nodeLine t p k) a i r c
+pub put-node : (t p : List ℕ) (k g : ℕ) {a b c : List ℕ} {i j r : ℕ} → g ≡ tagOf t k → Put (decimal k) a i j b →
+    Put (fields (getD p (2 * k) 0 ∷ getD p (2 * k + 1) 0 ∷ g ∷ [])) b j r c → Put (nodeLine t p k) a i r c
 unfolding nodeLine
 put-node t p k g e x y = put-then x (rw e at y)
 

@@ -23,7 +23,19 @@ put-nodes-requires c κs =
     let s = word .before .before .before .before .before .before in
     let ok = refusal-none (s .args .table .now) _ .0 (s .pre .0) .0 in (
       s .pre .0,
-      (s .pre .1 .0, omega (arith, three .put-three .ensures .1, word .put-word .ensures .place, s .pre .1, records-bounds _ ok, chain-length _ ok, three .put-three .kept .1 .1 .1 .0, word .put-word .kept .1 .0)),
+      (
+        s .pre .1 .0,
+        omega (
+          arith,
+          three .put-three .ensures .1,
+          word .put-word .ensures .place,
+          s .pre .1,
+          records-bounds _ ok,
+          chain-length _ ok,
+          three .put-three .kept .1 .1 .1 .0,
+          word .put-word .kept .1 .0,
+        ),
+      ),
     )
 
 same-length : tie.Need-same-length
@@ -34,8 +46,10 @@ unfolding planLine
 returns c =
     let nodes = c .before .before in
     let three = nodes .before .before .before .before in
-    let word = three .before .before .before .before in
-    (put-then (put-then (word .put-word .ensures) (three .put-three .ensures .0)) (nodes .put-nodes .ensures .0), omega (arith, nodes .put-nodes .ensures .1, three .put-three .kept .1 .1 .1 .0, word .put-word .kept .1 .0))
+    let word = three .before .before .before .before in (
+      put-then (put-then (word .put-word .ensures) (three .put-three .ensures .0)) (nodes .put-nodes .ensures .0),
+      omega (arith, nodes .put-nodes .ensures .1, three .put-three .kept .1 .1 .1 .0, word .put-word .kept .1 .0),
+    )
 
 pub put-plan-spec : {M : Type 1} → statement M
 put-plan-spec =
