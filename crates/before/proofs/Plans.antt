@@ -1,6 +1,6 @@
--- "Tables taken before get the plan they had": of a table with one root the drawer's answer is that of one tree (`one-drawn`), and so of every table that was
--- accepted before document 02, Paper 8 (`drawn-before`), or before Paper 5 (`drawn-first`). Rests on that law of tables, on Answered and on the laws of a
--- single tree (`layout`).
+-- "Tables taken before get the plan they had": of a table with one root the drawer's answer is that of one tree (`one-drawn`), and so of every table
+-- that was accepted before document 02, Paper 8 (`drawn-before`), or before Paper 5 (`drawn-first`). Rests on that law of tables, on Answered and on the
+-- laws of a single tree (`layout`).
 use mathlib.Core.Path.{_≡_, ap, ap₂, sym, _∙_}
 use mathlib.Core.List.{List, [], _∷_, map}
 use Prim.Native.Nat.{ℕ}
@@ -28,7 +28,8 @@ module _ (t : List ℕ) (one : roots t ≡ rootOf t ∷ []) where
   unfolding planOf planBefore
   one-plan =
       ap₂ (λ (w h : ℕ). record { nodes = length (chain t); width = w; height = h })
-      (ap widthOf one-layout ∙ sym (widthOf-one (draw (tree t)))) (ap heightOf one-layout ∙ sym (heightOf-one (draw (tree t))))
+      (ap widthOf one-layout ∙ sym (widthOf-one (draw (tree t))))
+      (ap heightOf one-layout ∙ sym (heightOf-one (draw (tree t))))
 
   pub one-drawn : (p : List ℕ) → refusal t (length p) ≡ 0 → AsBefore t p
   unfolding storeAll

@@ -1,5 +1,5 @@
--- "Tables taken before get the plan they had", drawn wide: of a table that was accepted before document 02, Paper 8, the answer is that of one tree (`wide-before`). Rests on that law of tables, on Answered and on the
--- laws of a single tree (`layout`).
+-- "Tables taken before get the plan they had", drawn wide: of a table that was accepted before document 02, Paper 8, the answer is that of one tree
+-- (`wide-before`). Rests on that law of tables, on Answered and on the laws of a single tree (`layout`).
 use mathlib.Core.Path.{_≡_, ap, ap₂, sym, _∙_}
 use mathlib.Core.List.{List, [], _∷_, map}
 use Prim.Native.Nat.{ℕ}

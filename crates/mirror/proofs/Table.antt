@@ -75,10 +75,6 @@ module _ (t : List ℕ) where
   unfolding exchanged
   exchanged-next k = each-kept exchangeLinks (λ u. nextOf u k) (chain t) t (λ n m u. step-kept n u k 0 (omega arith) (λ e. omega arith) (λ e. omega arith))
 
-  pub exchanged-tag : (k : ℕ) → tagOf (exchanged t) k ≡ tagOf t k
-  unfolding exchanged
-  exchanged-tag k = each-kept exchangeLinks (λ u. tagOf u k) (chain t) t (λ n m u. step-kept n u k 3 (omega arith) (λ e. omega arith) (λ e. omega arith))
-
   pub exchanged-chain : chain (exchanged t) ≡ chain t
   unfolding chain
   exchanged-chain = rw (exchanged-length, exchanged-next 0) (follow-same t (exchanged t) (records t) (nextOf t 0) (λ k m. exchanged-next k))
@@ -152,7 +148,10 @@ module _ (t : List ℕ) where
 
   trees-mirror : badChain t ≡ false → badLinks t ≡ false → (rootOf t ≡ 0) ⊎ Chained t (rootOf t) → trees (exchanged t) ≡ map mirror (trees t)
   trees-mirror ok e c =
-      ap (map (treeAt (exchanged t))) (roots-same ok) ∙ trees-alike (treeAt (exchanged t)) (λ k. mirror (treeAt t k)) (roots t) (at-roots t (λ k. treeAt (exchanged t) k ≡ mirror (treeAt t k)) (at-mirror ok e (rootOf t) c) (λ k h. at-mirror ok e k (inr h))) ∙ sym (map-map mirror (treeAt t) (roots t))
+      ap (map (treeAt (exchanged t))) (roots-same ok)
+      ∙ trees-alike (treeAt (exchanged t)) (λ k. mirror (treeAt t k)) (roots t)
+      (at-roots t (λ k. treeAt (exchanged t) k ≡ mirror (treeAt t k)) (at-mirror ok e (rootOf t) c) (λ k h. at-mirror ok e k (inr h)))
+      ∙ sym (map-map mirror (treeAt t) (roots t))
 
   tree-bad : badChain t ≡ false → badLinks t ≡ false → badTree (exchanged t) ≡ badTree t
   tree-bad ok e =

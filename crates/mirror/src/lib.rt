@@ -1,4 +1,7 @@
 // Left and right, and column and row, exchanged at listed records.
+use placements::point;
+use placements::set_point;
+use records::words::index;
 use records::words::left;
 use records::words::right;
 use records::writing::set_word;
@@ -26,11 +29,8 @@ fn exchange_point(placements: &mut [u16], k: usize)
     requires { ⌜ 2 * k + 1 < length (now placements) ⌝ }
     ensures { λ _. ⌜ now (placements .exit) ≡ exchangePoint k (now (placements .entry)) ⌝ }
 {
-    let at = 2 * k;
-    let column = placements[at];
-    let row = placements[at + 1];
-    placements[at] = row;
-    placements[at + 1] = column;
+    let old = point(placements, k);
+    set_point(placements, k, index(old.row), index(old.column));
 }
 
 // Left and right of the first `nodes` records of a list.

@@ -15,7 +15,7 @@ use Rattle.table.specs.Table.{Side, left, right, linkOf, records, Chained, Line
 use Rattle.table.specs.Trees.{roots}
 use Rattle.table.proofs.Accepted.{records-bounds, chain-within, link-within, parent-unique, root-unnamed}
 use Rattle.table.proofs.Ends.{above-node}
-use Rattle.records.specs.inner.Steps.{Blank}
+use Rattle.chains.specs.inner.Listing.{Blank}
 use Rattle.records.specs.inner.Reading.{Nodes}
 use Rattle.records.proofs.Nodes.{node-chained, node-place, chained-below}
 use Rattle.parents.specs.inner.Parents.{Parents, above}
@@ -52,12 +52,14 @@ module _ {t list : List ℕ} {n : ℕ} (l : Nodes t n list) where
   one : (i j : ℕ) (s r : Side) → i < n → j < n → linkOf t s (getD list j 0) ≢ 0 → linkOf t s (getD list j 0) ≡ linkOf t r (getD list i 0) → getD list i 0 ≡ getD list j 0
   one i j s r h k z e = sym (parent-unique t (l .accepted) (getD list j 0) (getD list i 0) s r (node-chained l j k) (node-chained l i h) (omega arith) e .0)
 
-  upward-more : {up : List ℕ} {i : ℕ} → i < n → Upward t list up i → Upward t list (set (set up (linkOf t left (getD list i 0)) (getD list i 0)) (linkOf t right (getD list i 0)) (getD list i 0)) (i + 1)
+  upward-more : {up : List ℕ} {i : ℕ} → i < n → Upward t list up i →
+      Upward t list (set (set up (linkOf t left (getD list i 0)) (getD list i 0)) (linkOf t right (getD list i 0)) (getD list i 0)) (i + 1)
   upward-more {up} {i} h u = record {
     long = simp length-set (u .long);
     parents = λ j s b z. twice up _ _ (getD list i 0) _ _ (omega (arith, u .long, link-fits i left h)) (omega (arith, u .long, link-fits i right h))
         (⊎-elim (λ e. one i j s left h (omega arith) z e) (λ e. one i j s right h (omega arith) z e)) (before j s b z);
-    root = λ k m z. twice up _ _ (getD list i 0) k 0 (omega (arith, u .long, link-fits i left h)) (omega (arith, u .long, link-fits i right h)) (⊎-elim (unnamed k m left) (unnamed k m right)) (λ x y. u .root k m z);
+    root = λ k m z. twice up _ _ (getD list i 0) k 0 (omega (arith, u .long, link-fits i left h)) (omega (arith, u .long, link-fits i right h))
+        (⊎-elim (unnamed k m left) (unnamed k m right)) (λ x y. u .root k m z);
   }
     where
       unnamed : (k : ℕ) → T (member k (roots t)) → (s : Side) → k ≡ linkOf t s (getD list i 0) → getD list i 0 ≡ 0
@@ -67,16 +69,19 @@ module _ {t list : List ℕ} {n : ℕ} (l : Nodes t n list) where
       either left k a b = a refl
       either right k a b = b refl
 
-      before : (j : ℕ) (s : Side) → j < i + 1 → linkOf t s (getD list j 0) ≢ 0 → linkOf t s (getD list j 0) ≢ linkOf t left (getD list i 0) → linkOf t s (getD list j 0) ≢ linkOf t right (getD list i 0) →
+      before : (j : ℕ) (s : Side) → j < i + 1 → linkOf t s (getD list j 0) ≢ 0 →
+          linkOf t s (getD list j 0) ≢ linkOf t left (getD list i 0) → linkOf t s (getD list j 0) ≢ linkOf t right (getD list i 0) →
           getD up (linkOf t s (getD list j 0)) 0 ≡ getD list j 0
       before j s b z x y = go (ℕ-discrete j i)
         where
           go : Dec (j ≡ i) → getD up (linkOf t s (getD list j 0)) 0 ≡ getD list j 0
-          go (yes e) = absurd (either s (getD list i 0) (subst (λ k. linkOf t s (getD list k 0) ≢ linkOf t left (getD list i 0)) e x) (subst (λ k. linkOf t s (getD list k 0) ≢ linkOf t right (getD list i 0)) e y))
+          go (yes e) = absurd (either s (getD list i 0) (subst (λ k. linkOf t s (getD list k 0) ≢ linkOf t left (getD list i 0)) e x)
+              (subst (λ k. linkOf t s (getD list k 0) ≢ linkOf t right (getD list i 0)) e y))
           go (no q) = u .parents j s (omega arith) z
 
   -- The same, with the numbers as the code has them.
-  pub upward-by : {up : List ℕ} {i k a b : ℕ} → i < n → Upward t list up i → k ≡ getD list i 0 → a ≡ linkOf t left k → b ≡ linkOf t right k → Upward t list (set (set up a (getD list i 0)) b (getD list i 0)) (i + 1)
+  pub upward-by : {up : List ℕ} {i k a b : ℕ} → i < n → Upward t list up i → k ≡ getD list i 0 → a ≡ linkOf t left k → b ≡ linkOf t right k →
+      Upward t list (set (set up a (getD list i 0)) b (getD list i 0)) (i + 1)
   upward-by h u e x y = rw (x, y, e) (upward-more h u)
 
   pub upward-all : {up : List ℕ} → Upward t list up n → Parents t up

@@ -5,7 +5,7 @@ use records::words::right;
 ghost use mathlib.Core.Path.{_≡_};
 ghost use Prim.Native.Nat.{_<_};
 ghost use lib.ListN.{length};
-ghost use Rattle.records.specs.inner.Steps.{Blank};
+ghost use Rattle.chains.specs.inner.Listing.{Blank};
 ghost use Rattle.records.specs.inner.Reading.{Nodes};
 ghost use Rattle.parents.specs.inner.Parents.{Parents, above as aboveOf};
 

@@ -5,13 +5,14 @@ use mathlib.Core.List.{List, [], _∷_}
 use Prim.Native.Nat.{ℕ, _*_, _≤_, _<_}
 use native.Mathlib.Omega.{arith}
 use lib.ListN.{length}
-use borrow.Author.Tests.{ne-eqb, lt-ltb, le-ltb}
+use borrow.Author.Tests.{ne-eqb, lt-ltb, le-ltb, not-true, not-false}
 use Rattle.records.specs.declared.Reading.{Reading}
 use Rattle.table.specs.Table.{records, chain}
 use Rattle.table.specs.Refusal.{badLength, badHead, badChain, badFree, badLinks, badTree, shortPlacements, fault, refusal}
-use Rattle.records.specs.inner.Reading.{Examined, TracedOf, ReadOf}
-use Rattle.records.specs.inner.Steps.{Shaped, Listed, Ordered, Filled}
-use Rattle.records.proofs.Form.{form}
+use Rattle.records.specs.inner.Reading.{Checked, Examined, TracedOf, ReadOf}
+use Rattle.chains.specs.inner.Listing.{Shaped, Listed}
+use Rattle.trees.specs.inner.Steps.{Filled, Grown}
+use Rattle.records.proofs.Form.{form, first-of-two, neither}
 
 -- From the bytes alone.
 refused : (t : List ℕ) (r : Reading) (list order : List ℕ) → fault t ≡ r .refusal → (r .refusal ≡ 0 → ⊥) → Examined t r list order
@@ -19,36 +20,34 @@ refused t r list order e h = record { refusal = sym e; accepted = λ z. absurd (
 
 pub refused-form : (t : List ℕ) (r : Reading) (list order : List ℕ) → r .refusal ≡ form t → (r .refusal ≡ 0 → ⊥) → Examined t r list order
 unfolding fault
-refused-form t r list order e h = refused t r list order (go (badLength t) (badHead t) _ e h) h
-  where
-    go : (a b : Bool) (rest : ℕ) → r .refusal ≡ cond a 1 (cond b 2 0) → (r .refusal ≡ 0 → ⊥) → cond a 1 (cond b 2 rest) ≡ r .refusal
-    go true b rest e h = sym e
-    go false true rest e h = sym e
-    go false false rest e h = absurd (h e)
+refused-form t r list order e h = refused t r list order (sym (first-of-two (badLength t) (badHead t) 1 2 _ _ e h)) h
 
 module _ (t list order : List ℕ) (s : Shaped t) where
   pub refused-chain : badChain t ≡ true → Examined t (record { refusal = 3; nodes = 0 }) list order
   unfolding fault
   refused-chain c = refused t _ list order (rw (s .whole, s .tagless, c)) (λ z. omega arith)
 
-  module _ (c : badChain t ≡ false) where
-    pub refused-free : badFree t ≡ true → Examined t (record { refusal = 8; nodes = 0 }) list order
-    unfolding fault
-    refused-free f = refused t _ list order (rw (s .whole, s .tagless, c, f)) (λ z. omega arith)
+  pub examined : badChain t ≡ false → (r n : ℕ) → Checked t r n order → Listed t (chain t) n list → Examined t (record { refusal = r; nodes = n }) list order
+  unfolding fault
+  examined c r n k l = record {
+    refusal = k .cause ∙ rw (s .whole, s .tagless, c);
+    accepted = λ z. record { nodes = l .nodes; listed = l .listed; ordered = k .ordered z };
+  }
 
-    module _ (f : badFree t ≡ false) where
-      pub refused-links : badLinks t ≡ true → Examined t (record { refusal = 4; nodes = 0 }) list order
-      unfolding fault
-      refused-links l = refused t _ list order (rw (s .whole, s .tagless, c, f, l)) (λ z. omega arith)
+-- Causes 8 and 4, and then 5.
+module _ (t : List ℕ) (r : ℕ) (e : r ≡ cond (badFree t) 8 (cond (badLinks t) 4 0)) where
+  pub early : (n : ℕ) (order : List ℕ) → (r ≡ 0 → ⊥) → Checked t r n order
+  early n order h = record { cause = first-of-two (badFree t) (badLinks t) 8 4 _ r e h; ordered = λ z. absurd (h z) }
 
-      module _ (l : badLinks t ≡ false) where
-        pub refused-tree : badTree t ≡ true → Examined t (record { refusal = 5; nodes = 0 }) list order
-        unfolding fault
-        refused-tree b = refused t _ list order (rw (s .whole, s .tagless, c, f, l, b)) (λ z. omega arith)
+  pub unharmed : r ≡ 0 → (badFree t ≡ false) × (badLinks t ≡ false)
+  unharmed z = neither (badFree t) (badLinks t) 7 3 (sym e ∙ z)
 
-        pub examined : badTree t ≡ false → (n : ℕ) → Listed t (chain t) n list → Ordered t n order → Examined t (record { refusal = 0; nodes = n }) list order
-        unfolding fault
-        examined b n i o = record { refusal = rw (s .whole, s .tagless, c, f, l, b); accepted = λ z. record { nodes = i .nodes; listed = i .listed; ordered = o } }
+module _ (t : List ℕ) (n : ℕ) (order : List ℕ) (u : (badFree t ≡ false) × (badLinks t ≡ false)) (b : Bool) (g : Grown t b n order) where
+  pub tree : b ≡ true → Checked t 0 n order
+  tree e = record { cause = rw (u .0, u .1, not-true (badTree t) (sym (g .good) ∙ e)); ordered = λ z. g .ordered e }
+
+  pub treeless : b ≡ false → Checked t 5 n order
+  treeless e = record { cause = rw (u .0, u .1, not-false (badTree t) (sym (g .good) ∙ e)); ordered = λ z. absurd (omega arith) }
 
 -- And from the number of placements.
 module _ (t : List ℕ) (places : ℕ) (r : Reading) (list order : List ℕ) (x : Examined t r list order) where
@@ -69,7 +68,8 @@ module _ (t : List ℕ) (places : ℕ) (r : Reading) (list order : List ℕ) (x 
     traced p = record { refusal = z ∙ rw (none, le-ltb places (2 * records t) p); accepted = x .accepted }
 
 -- What is traced, and sized.
-pub sized : (t : List ℕ) (places : ℕ) (r : Reading) (list order sizes : List ℕ) → TracedOf t places r list order → (r .refusal ≡ 0 → Filled t (chain t) sizes) → ReadOf t places r list order sizes
+pub sized : (t : List ℕ) (places : ℕ) (r : Reading) (list order sizes : List ℕ) → TracedOf t places r list order →
+    (r .refusal ≡ 0 → Filled t (chain t) sizes) → ReadOf t places r list order sizes
 sized t places r list order sizes d f = record {
   refusal = d .refusal;
   accepted = λ z. record { traced = d .accepted z; sized = f z .sized; none = f z .none };

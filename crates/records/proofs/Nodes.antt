@@ -9,7 +9,7 @@ use Rattle.table.specs.Table.{records, chain, Chained}
 use Rattle.table.specs.Refusal.{fault}
 use Rattle.records.specs.inner.Reading.{Nodes}
 use Rattle.table.proofs.Accepted.{records-bounds, chain-distinct, chain-length, chain-within}
-use Rattle.records.proofs.Scan.{places-differ, taken-at, taken-member, taken-place}
+use Rattle.chains.proofs.Scan.{places-differ, taken-at, taken-member, taken-place}
 
 pub nodes-of : {t list : List ℕ} {n : ℕ} → fault t ≡ 0 → length list ≡ 4097 → n ≡ length (chain t) → take n list ≡ chain t → Nodes t n list
 nodes-of {t} ok e n l = record { accepted = ok; nodes = n; long = omega (arith, chain-length t ok, records-bounds t ok); listed = l }

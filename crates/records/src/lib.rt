@@ -1,30 +1,24 @@
-// Reading a table of records: the refusals, the chain, the nodes breadth first from the roots on, and the sizes of the subtrees.
-mod links;
-mod naming;
-mod reach;
-mod walk;
-pub mod words;
-pub mod writing;
-
-use crate::links::marked;
-use crate::links::strays;
-use crate::naming::list_roots;
-use crate::reach::measure;
-use crate::reach::reaches;
-use crate::walk::spoiled;
-use crate::walk::walk;
-use crate::words::left;
-use crate::words::next;
-use crate::words::tag;
+// Reading a table of records: the refusals, the chain, the nodes breadth first from the roots on, and the sizes of the subtrees. Passes on what reads and writes the
+// words of a record.
+pub use access::words;
+use access::words::next;
+use access::words::tag;
+pub use access::writing;
+use chains::spoiled;
+use chains::walk;
+use trees::grow;
+use trees::links::strays;
+use trees::reach::measure;
 ghost use mathlib.Core.Path.{_≡_};
-ghost use mathlib.Core.Bool.{cond, false};
+ghost use mathlib.Core.Bool.{cond};
 ghost use lib.ListN.{length};
 ghost use Rattle.table.specs.Table.{chain as chainOf};
-ghost use Rattle.table.specs.Refusal.{badLength, badHead, badLinks, refusal};
-ghost use Rattle.records.specs.inner.Reading.{Examined, TracedOf, ReadOf};
-ghost use Rattle.records.specs.inner.Steps.{Blank, Listed, Marked, Tallied, Grown};
+ghost use Rattle.table.specs.Refusal.{badLength, badHead, badFree, badLinks, refusal};
+ghost use Rattle.records.specs.inner.Reading.{Checked, Examined, TracedOf, ReadOf};
+ghost use Rattle.chains.specs.inner.Listing.{Blank, Listed, Marked};
+ghost use Rattle.trees.specs.inner.Steps.{Tallied};
 
-// A refusal, or 0 and the number of nodes.
+// A refusal, or 0 and the number of nodes (which means nothing beside a refusal).
 pub struct Reading {
     pub refusal: u16,
     pub nodes: usize,
@@ -59,26 +53,38 @@ fn shape(table: &[u8]) -> u16
     0
 }
 
-// Whether the records of the chain make trees; then lists their nodes, breadth first from the roots on, in place of how often they are named. The marks make way for the roots.
-fn grow(table: &[u8], chain: &[u16], nodes: usize, mark: &mut [u16], order: &mut [u16]) -> bool
+// Causes 8 and 4, of a table whose chain is listed and marked; 0 if neither holds, and then the tally has how often each record is named.
+fn misled(table: &[u8], chain: &[u16], nodes: usize, mark: &[u16], tally: &mut [u16]) -> u16
     requires { ⌜ Listed (now table) (chainOf (now table)) nodes (now chain) ⌝ }
     requires { ⌜ Marked (chainOf (now table)) (now mark) ⌝ }
-    requires { ⌜ badLinks (now table) ≡ false ⌝ }
-    requires { ⌜ Tallied (now table) (now order) ⌝ }
-    ensures { λ r. ⌜ Grown (now (table .entry)) r nodes (now (order .exit)) ⌝ }
+    requires { ⌜ Blank (now tally) ⌝ }
+    ensures { λ r. ⌜ r ≡ cond (badFree (now (table .entry))) 8 (cond (badLinks (now (table .entry))) 4 0) ⌝ }
+    ensures { λ r. ⌜ (r ≡ 0 → Tallied (now (table .entry)) (now (tally .exit))) ⌝ }
 {
-    let root = left(table, 0);
-    if root == 0 {
-        return nodes == 0;
+    if spoiled(table, mark) {
+        return 8;
     }
-    if !marked(mark, root) {
-        return false;
+    if strays(table, chain, nodes, mark, tally) {
+        return 4;
     }
-    let roots = list_roots(table, chain, nodes, root, order, mark);
-    if roots == 0 {
-        return false;
+    0
+}
+
+// And cause 5; 0 if none holds, and then order lists the nodes breadth first.
+fn tangled(table: &[u8], chain: &[u16], nodes: usize, mark: &mut [u16], order: &mut [u16]) -> u16
+    requires { ⌜ Listed (now table) (chainOf (now table)) nodes (now chain) ⌝ }
+    requires { ⌜ Marked (chainOf (now table)) (now mark) ⌝ }
+    requires { ⌜ Blank (now order) ⌝ }
+    ensures { λ r. ⌜ Checked (now (table .entry)) r nodes (now (order .exit)) ⌝ }
+{
+    let cause = misled(table, chain, nodes, mark, order);
+    if cause != 0 {
+        return cause;
     }
-    reaches(table, nodes, mark, roots, order)
+    if grow(table, chain, nodes, mark, order) {
+        return 0;
+    }
+    5
 }
 
 // Causes 1 to 5 and 8, from the bytes alone. Of an accepted table, chain lists the nodes, and order lists them breadth first.
@@ -96,17 +102,12 @@ pub fn examine(table: &[u8], chain: &mut [u16], order: &mut [u16]) -> Reading
     if walked.broken {
         return refused(3);
     }
-    if spoiled(table, &mark) {
-        return refused(8);
-    }
     let nodes = walked.count;
-    if strays(table, chain, nodes, &mark, order) {
-        return refused(4);
+    let cause = tangled(table, chain, nodes, &mut mark, order);
+    Reading {
+        refusal: cause,
+        nodes,
     }
-    if !grow(table, chain, nodes, &mut mark, order) {
-        return refused(5);
-    }
-    Reading { refusal: 0, nodes }
 }
 
 // And 6, from the number of placements.

@@ -76,5 +76,9 @@ every [] ok = tt
 every (c ∷ cs) ok = let z = and-yes (test c) (tests cs) ok in (right c (z .0), every cs (z .1))
 
 pub starred : All Right cases
-unfolding any member repeats count select word follow chain free size nodes descend badLength badHead beyond broken occupied badFree stray badLinks isEmpty links startsTree nodesOf badTree shortPlacements fault refusal width height shift flip mirror spine opposite seen runRole roleAfter handAfter rolesAfter roles hang widest join place steps drawing draw drawFrom widthOf heightOf store storeAll planOf drawnOf placedIn cross overlap spans astride meets samePlace crosses along clashes present someLine samePoint childAbove twoLines somePoint clashing inOrder outOfOrder verdictOf greatest floorLog2 allowedWidth same listed test tests
+unfolding any member repeats count select word follow chain free size nodes descend badLength badHead beyond broken occupied badFree stray badLinks
+    isEmpty links startsTree nodesOf badTree shortPlacements fault refusal width height shift flip mirror spine opposite seen runRole roleAfter handAfter
+    rolesAfter roles hang widest join place steps drawing draw drawFrom widthOf heightOf store storeAll planOf drawnOf placedIn cross overlap spans
+    astride meets samePlace crosses along clashes present someLine samePoint childAbove twoLines somePoint clashing inOrder outOfOrder verdictOf greatest
+    floorLog2 allowedWidth same listed test tests
 starred = every cases tt

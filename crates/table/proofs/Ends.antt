@@ -22,5 +22,7 @@ module _ (t : List ℕ) (ok : fault t ≡ 0) where
   -- A node is a root, or the child of a line.
   pub above-node : (b : ℕ) → Chained t b → T (member b (roots t)) ⊎ ((k : ℕ) × (s : Side) × Line t k s b)
   above-node b h =
-      ⊎-map (λ (r : T (member b (roots t))). r) (λ (p : (k : ℕ) × (s : Side) × Chained t k × (linkOf t s k ≡ b)).
-      (p .0, p .1, record { chained = p .2; links = p .3; child = λ e. omega (arith, chain-within t ok b h) })) (parent t ok b h)
+      ⊎-map (λ (r : T (member b (roots t))). r)
+      (λ (p : (k : ℕ) × (s : Side) × Chained t k × (linkOf t s k ≡ b)).
+      (p .0, p .1, record { chained = p .2; links = p .3; child = λ e. omega (arith, chain-within t ok b h) }))
+      (parent t ok b h)

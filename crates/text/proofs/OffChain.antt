@@ -8,7 +8,7 @@ use lib.Dec.{T, eqb}
 use Rattle.table.specs.Lists.{member}
 use Rattle.table.specs.Table.{tagOf, chain}
 use Rattle.table.specs.OffChain.{OffChain}
-use Rattle.table.proofs.Lists.{member-cons}
+use Rattle.table.proofs.Lists.{by-members}
 use Rattle.table.proofs.OffChain.{chain-same, tag-same}
 use Rattle.drawing.specs.declared.Drawn.{Drawn}
 use Rattle.drawing.specs.Answer.{drawnOf, placedIn}
@@ -17,8 +17,8 @@ use Rattle.text.specs.Text.{planLine, nodeLine, nodeLines, refusedLine, 
 
 lines-same : (t u p ks : List ℕ) → ((k : ℕ) → T (member k ks) → tagOf u k ≡ tagOf t k) → nodeLines u p ks ≡ nodeLines t p ks
 unfolding nodeLines nodeLine
-lines-same t u p [] e = refl
-lines-same t u p (n ∷ ns) e = rw (e n (member-cons n n ns .1 (inl refl)), lines-same t u p ns (λ k m. e k (member-cons k n ns .1 (inr m))))
+lines-same t u p =
+    by-members (λ k. tagOf u k ≡ tagOf t k) (λ ks. nodeLines u p ks ≡ nodeLines t p ks) refl (λ n ns h more. rw (h, more))
 
 from-same : {t u : List ℕ} → OffChain t u → (d : Drawn) (p : List ℕ) → textFrom u d p ≡ textFrom t d p
 unfolding textFrom

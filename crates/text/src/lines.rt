@@ -4,6 +4,7 @@ use fields::put_decimal;
 use fields::put_last;
 use fields::put_three;
 use fields::put_word;
+use placements::point;
 use records::words::next;
 use records::words::tag;
 ghost use mathlib.Core.Path.{_≡_};
@@ -34,9 +35,8 @@ fn put_node(table: &[u8], placements: &[u16], k: usize, out: &mut [u8], at: usiz
     ensures { λ r. ⌜ r ≤ at + 24 ⌝ }
 {
     let end = put_decimal(k as u16, out, at);
-    let column = placements[2 * k];
-    let row = placements[2 * k + 1];
-    put_three(column, row, tag(table, k) as u16, out, end)
+    let place = point(placements, k);
+    put_three(place.column, place.row, tag(table, k) as u16, out, end)
 }
 
 // The lines of the nodes, in chain order.

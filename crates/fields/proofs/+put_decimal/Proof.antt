@@ -66,5 +66,7 @@ returns-2 t c =
 
 pub +put-decimal-spec : {M : Type 1} → statement M
 +put-decimal-spec =
-    close μ λ t. lts.spec (calls t) (given t) Post (digit-requires t) (slice-write-out t) (add-result t) (same-length t) (returns t)
-    (put-decimal-requires t) (digit-requires-2 t) (slice-write-out-2 t) (add-result-2 t) (same-length-2 t) (returns-2 t)
+    close μ λ t.
+    lts.spec (calls t) (given t) Post (digit-requires t) (slice-write-out t) (add-result t) (same-length t) (returns t)
+    (put-decimal-requires t) (digit-requires-2 t) (slice-write-out-2 t) (add-result-2 t)
+    (same-length-2 t) (returns-2 t)

@@ -40,7 +40,8 @@ loop-less c = search needs
 loop-again : tie.Need-loop-again Inv-loop μ-loop
 loop-again c =
     let at = c .before .before .before .before .before in
-    done-more (at .before .before .before .before .pre .0) (at .loop-test .taken) (at .before .loop .inv) (c .before .before .exchange-point .ensures) (c .before .before .exchange-point .kept .0)
+    done-more (at .before .before .before .before .pre .0) (at .loop-test .taken) (at .before .loop .inv)
+    (c .before .before .exchange-point .ensures) (c .before .before .exchange-point .kept .0)
 
 same-length : tie.Need-same-length Inv-loop μ-loop
 same-length c = c .before .loop .inv .long
@@ -49,4 +50,7 @@ returns : tie.Need-returns Inv-loop μ-loop
 returns c = done-all (c .before .before .before .before .pre .0) (c .loop-test .left) (c .before .loop .inv)
 
 pub exchange-placements-spec : {M : Type 1} → statement M
-exchange-placements-spec = tie.close (tie.spec Inv-loop μ-loop loop-holds mul-exchange-point shared-slice-read-exchange-point cast-exchange-point exchange-point-requires add-i loop-less loop-again same-length returns)
+exchange-placements-spec =
+    tie.close
+    (tie.spec Inv-loop μ-loop loop-holds mul-exchange-point shared-slice-read-exchange-point cast-exchange-point
+    exchange-point-requires add-i loop-less loop-again same-length returns)

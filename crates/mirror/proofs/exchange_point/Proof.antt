@@ -1,63 +1,39 @@
 -- `exchange_point` exchanges column and row of a record.
+use mathlib.Core.Path.{_≡_}
+use mathlib.Core.List.{List}
+use Prim.Native.Nat.{ℕ}
+use Rattle.segment.specs.declared.Point.{Point}
+use Rattle.placements.specs.Placements.{pointOf, withPoint}
 use borrow.Author.Needs.{needs}
 use Rattle.mirror.specs.Exchanged.{exchangePoint}
 use Rattle.mirror.proofs.exchange_point.Statement.{statement}
 use Rattle.mirror.proofs.exchange_point.Tie as tie
 
-mul-at : tie.Need-mul-at
-mul-at c = search needs
+point-requires : tie.Need-point-requires
+point-requires c κs = search needs
 
-mul-column : tie.Need-mul-column
-mul-column c = search needs
+index-requires : tie.Need-index-requires
+index-requires c κs = search needs
 
-slice-read-column : tie.Need-slice-read-column
-slice-read-column c = search needs
+index-requires-2 : tie.Need-index-requires-2
+index-requires-2 c κs = search needs
 
-add-row : tie.Need-add-row
-add-row c = search needs
-
-mul-row : tie.Need-mul-row
-mul-row c = search needs
-
-slice-read-row : tie.Need-slice-read-row
-slice-read-row c = search needs
-
-mul-placements : tie.Need-mul-placements
-mul-placements c = search needs
-
-slice-write-placements : tie.Need-slice-write-placements
-slice-write-placements c = search needs
-
-add-placements : tie.Need-add-placements
-add-placements c = search needs
-
-mul-placements-2 : tie.Need-mul-placements-2
-mul-placements-2 c = search needs
-
-slice-write-placements-2 : tie.Need-slice-write-placements-2
-slice-write-placements-2 c = search needs
+set-point-requires : tie.Need-set-point-requires
+set-point-requires c κs = search needs
 
 same-length : tie.Need-same-length
 same-length c = search needs
 
-returns : tie.Need-returns
+-- The point that was read, written back with row and column exchanged.
+written-back : (p q : List ℕ) (k a b : ℕ) {P : Point} → q ≡ withPoint k a b p → a ≡ P .row → b ≡ P .column → P ≡ pointOf p k → q ≡ exchangePoint k p
 unfolding exchangePoint
-returns c = search needs
+written-back p q k a b e f g h = rw (e, f, g, h)
+
+returns : tie.Need-returns
+returns c =
+    let set = c .before .before in
+    let read = set .before .before .before .before in
+    written-back _ _ _ _ _ (set .set-point .ensures) (set .before .before .index .ensures) (set .before .index2 .ensures) (read .point .ensures)
 
 pub exchange-point-spec : {M : Type 1} → statement M
-exchange-point-spec =
-    tie.close
-    (tie.spec
-    mul-at
-    mul-column
-    slice-read-column
-    add-row
-    mul-row
-    slice-read-row
-    mul-placements
-    slice-write-placements
-    add-placements
-    mul-placements-2
-    slice-write-placements-2
-    same-length
-    returns)
+exchange-point-spec = tie.close (tie.spec point-requires index-requires index-requires-2 set-point-requires same-length returns)

@@ -28,22 +28,36 @@ index-requires : tie.Need-index-requires Inv-loop μ-loop
 index-requires c κs = search needs
 
 left-requires : tie.Need-left-requires Inv-loop μ-loop
-left-requires c κs = omega (arith, node-below (c .before .before .before .before .before .before .before .pre .0) (c .before .before .before .loop .i) (c .before .before .loop-test .taken))
+left-requires c κs =
+    let head = c .before .before .before in
+    let start = head .before .before .before .before in
+    omega (arith, node-below (start .pre .0) (head .loop .i) (c .before .before .loop-test .taken))
 
 right-requires : tie.Need-right-requires Inv-loop μ-loop
-right-requires c κs = omega (arith, node-below (c .before .before .before .before .before .before .before .before .pre .0) (c .before .before .before .before .loop .i) (c .before .before .before .loop-test .taken))
+right-requires c κs =
+    let test = c .before .before .before in
+    let head = test .before in
+    let start = head .before .before .before .before in
+    omega (arith, node-below (start .pre .0) (head .loop .i) (test .loop-test .taken))
 
 mul-up : tie.Need-mul-up Inv-loop μ-loop
 mul-up c = search needs
 
 slice-write-up : tie.Need-slice-write-up Inv-loop μ-loop
-slice-write-up c = let l = c .before .before .before .before in omega (arith, link-fits-by (c .before .before .before .before .before .before .before .before .before .pre .0) left (l .loop-test .taken) (c .before .before .index .ensures) (c .before .left .ensures .0), l .before .loop .inv .1 .long)
+slice-write-up c =
+    let start = c .before .before .before .before .before .before .before .before .before in
+    let l = c .before .before .before .before in
+    omega (arith, link-fits-by (start .pre .0) left (l .loop-test .taken) (c .before .before .index .ensures) (c .before .left .ensures .0), l .before .loop .inv .1 .long)
 
 mul-up-2 : tie.Need-mul-up-2 Inv-loop μ-loop
 mul-up-2 c = search needs
 
 slice-write-up-2 : tie.Need-slice-write-up-2 Inv-loop μ-loop
-slice-write-up-2 c = simp length-set (let l = c .before .before .before .before in omega (arith, link-fits-by (c .before .before .before .before .before .before .before .before .before .pre .0) right (l .loop-test .taken) (c .before .before .index .ensures) (c .right .ensures .0), l .before .loop .inv .1 .long))
+slice-write-up-2 c =
+    let start = c .before .before .before .before .before .before .before .before .before in
+    let l = c .before .before .before .before in
+    let fits = link-fits-by (start .pre .0) right (l .loop-test .taken) (c .before .before .index .ensures) (c .right .ensures .0) in
+    simp length-set (omega (arith, fits, l .before .loop .inv .1 .long))
 
 add-i : tie.Need-add-i Inv-loop μ-loop
 add-i c = search needs
@@ -52,7 +66,10 @@ loop-less : tie.Need-loop-less Inv-loop μ-loop
 loop-less c = search needs
 
 loop-again : tie.Need-loop-again Inv-loop μ-loop
-loop-again c = let l = c .before .before .before .before in (search needs, upward-by (c .before .before .before .before .before .before .before .before .before .pre .0) (l .loop-test .taken) (l .before .loop .inv .1) (c .before .before .index .ensures) (c .before .left .ensures .0) (c .right .ensures .0))
+loop-again c =
+    let start = c .before .before .before .before .before .before .before .before .before in
+    let l = c .before .before .before .before in
+    (search needs, upward-by (start .pre .0) (l .loop-test .taken) (l .before .loop .inv .1) (c .before .before .index .ensures) (c .before .left .ensures .0) (c .right .ensures .0))
 
 same-length : tie.Need-same-length Inv-loop μ-loop
 same-length c = search needs

@@ -11,7 +11,9 @@ use Rattle.plan.proofs.main.Tie as tie
 
 -- The bytes read are within the table's buffer, and the text within its own.
 read-within : (c : tie.After-known-told) → c .before .n .given .0 .0 ≤ length (c .before .before .before .before .read-all .last .0)
-read-within c = omega (arith, ap countOf (c .before .n .given .1), c .before .before .before .before .read-all .ensures, c .before .before .before .before .read-all .kept .0)
+read-within c =
+    let at-read-all = c .before .before .before .before in
+    omega (arith, ap countOf (c .before .n .given .1), at-read-all .read-all .ensures, at-read-all .read-all .kept .0)
 
 written-within : (c : tie.After-write-text) → c .write-text .result ≤ length (c .write-text .last .1 .0)
 written-within c = omega (arith, c .write-text .ensures .0, simp length-append at (ap length (c .write-text .ensures .1)))

@@ -1,17 +1,24 @@
 -- `examine` answers the refusal from the bytes alone, and lists an accepted table.
-use mathlib.Core.Path.{_≡_, sym, _∙_}
-use mathlib.Core.Bool.{false}
-use borrow.Author.Tests.{not-true, not-false}
+use mathlib.Core.Path.{sym, _∙_}
 use Rattle.table.specs.Table.{chain as chainOf}
-use Rattle.table.specs.Refusal.{badFree, badLinks}
-use Rattle.records.specs.inner.Steps.{Shaped, Listed, Marked}
+use Rattle.chains.specs.inner.Listing.{Shaped, Listed}
 use Rattle.records.proofs.Form.{shaped}
-use Rattle.records.proofs.Zeros.{blank}
-use Rattle.records.proofs.Walking.{walked-breaks, walked-listed, walked-marked, from-next}
-use Rattle.records.proofs.Answer.{refused-form, refused-chain, refused-free, refused-links, refused-tree, examined}
+use Rattle.chains.proofs.Zeros.{blank}
+use Rattle.chains.proofs.Walking.{walked-breaks, walked-listed, walked-marked, from-next}
+use Rattle.records.proofs.Answer.{refused-form, refused-chain, examined}
 use borrow.Author.Needs.{needs}
 use Rattle.records.proofs.examine.Statement.{statement}
 use Rattle.records.proofs.examine.Tie as tie
+
+-- The places of the calls, as seen from those after them.
+abbrev at-start : tie.After-next → tie.Start
+at-start c = c .before .before .before .before .before .before
+
+abbrev at-next : tie.After-walk → tie.After-next
+at-next c = c .before .before .before
+
+abbrev at-walk : tie.Else2 → tie.After-walk
+at-walk c = c .before .before .before .before
 
 shape-requires : tie.Need-shape-requires
 shape-requires c κs = search needs
@@ -22,21 +29,15 @@ refused-requires c κs = search needs
 returns : tie.Need-returns
 returns c = rw (c .refused .ensures) (refused-form _ _ _ _ (c .before .before .shape .ensures) (c .before .if1 .taken))
 
--- Past the first test the table is well formed, past the second its chain is listed and marked, past the third its free records are sound, past the fourth its links.
+-- Past the first test the table is well formed, past the second its chain is listed.
 formed : (c : tie.Else1) → Shaped (c .before .before .before .before .before .args .table .now)
 formed c = shaped _ (sym (c .before .shape .ensures) ∙ c .if1 .left)
 
-listed : (c : tie.Else2) → Listed (c .before .before .before .before .before .before .before .before .before .before .before .before .before .args .table .now) (chainOf (c .before .before .before .before .before .before .before .before .before .before .before .before .before .args .table .now)) (c .before .before .before .before .walk .result .count) (c .before .before .before .before .walk .last .1 .1 .0)
-listed c = walked-listed _ _ _ _ _ (c .before .before .before .before .walk .ensures) _ (from-next _ _ (c .before .before .before .before .before .before .before .next .ensures .0)) (c .if2 .left)
-
-marked : (c : tie.Else2) → Marked (chainOf (c .before .before .before .before .before .before .before .before .before .before .before .before .before .args .table .now)) (c .before .before .before .before .walk .last .1 .1 .1 .0)
-marked c = walked-marked _ _ _ _ _ (c .before .before .before .before .walk .ensures) _ (from-next _ _ (c .before .before .before .before .before .before .before .next .ensures .0)) (c .if2 .left)
-
-vacant : (c : tie.Else3) → badFree (c .before .before .before .before .before .before .before .before .before .before .before .before .before .before .before .before .args .table .now) ≡ false
-vacant c = sym (c .before .spoiled .ensures) ∙ c .if3 .left
-
-linked : (c : tie.Else4) → badLinks (c .before .before .before .before .before .before .before .before .before .before .before .before .before .before .before .before .before .before .before .before .before .before .before .args .table .now) ≡ false
-linked c = sym (c .before .before .before .strays .ensures .0) ∙ c .if4 .left
+listed : (c : tie.Else2) →
+    let w = at-walk c in
+    let t = (at-start (at-next w)) .args .table .now in
+    Listed t (chainOf t) (w .walk .result .count) (w .walk .last .1 .1 .0)
+listed c = let w = at-walk c in walked-listed _ _ _ _ _ (w .walk .ensures) _ (from-next _ _ ((at-next w) .next .ensures .0)) (c .if2 .left)
 
 next-requires : tie.Need-next-requires
 next-requires c κs = (formed c) .head
@@ -45,7 +46,9 @@ slice-aggregate-walk : tie.Need-slice-aggregate-walk
 slice-aggregate-walk c = search needs
 
 walk-requires : tie.Need-walk-requires
-walk-requires c κs = (formed (c .before .before .before), (c .before .before .next .ensures .1, (c .before .before .before .before .before .before .before .before .pre .0, blank)))
+walk-requires c κs =
+    let n = c .before .before in
+    (formed (n .before), (n .next .ensures .1, ((at-start n) .pre .0, blank)))
 
 refused-requires-2 : tie.Need-refused-requires-2
 refused-requires-2 c κs = search needs
@@ -54,76 +57,33 @@ same-length : tie.Need-same-length
 same-length c = search needs
 
 returns-2 : tie.Need-returns-2
-returns-2 c = rw (c .refused2 .ensures) (refused-chain _ _ _ (formed (c .before .before .before .before .before .before .before .before .before)) (sym (walked-breaks _ _ _ _ _ (c .before .before .before .before .before .walk .ensures) _ (from-next _ _ (c .before .before .before .before .before .before .before .before .next .ensures .0))) ∙ c .before .if2 .taken))
+returns-2 c =
+    let w = c .before .before .before .before .before in
+    let n = at-next w in
+    rw (c .refused2 .ensures)
+    (refused-chain _ _ _ (formed (n .before)) (sym (walked-breaks _ _ _ _ _ (w .walk .ensures) _ (from-next _ _ (n .next .ensures .0))) ∙ c .before .if2 .taken))
 
-slice-aggregate-spoiled : tie.Need-slice-aggregate-spoiled
-slice-aggregate-spoiled c = search needs
+slice-aggregate-tangled : tie.Need-slice-aggregate-tangled
+slice-aggregate-tangled c = search needs
 
-spoiled-requires : tie.Need-spoiled-requires
-spoiled-requires c κs = (listed (c .before) .shaped, marked (c .before))
-
-refused-requires-3 : tie.Need-refused-requires-3
-refused-requires-3 c κs = search needs
+tangled-requires : tie.Need-tangled-requires
+tangled-requires c κs =
+    let past = c .before .before .before in
+    let w = at-walk past in
+    let n = at-next w in
+    (listed past, (walked-marked _ _ _ _ _ (w .walk .ensures) _ (from-next _ _ (n .next .ensures .0)) (past .if2 .left), (at-start n) .pre .1))
 
 same-length-2 : tie.Need-same-length-2
 same-length-2 c = search needs
 
-returns-3 : tie.Need-returns-3
-returns-3 c =
-    let l = listed (c .before .before .before .before) in
-    rw (c .refused3 .ensures) (refused-free _ _ _ (l .shaped) (l .sound) (sym (c .before .before .spoiled .ensures) ∙ c .before .if3 .taken))
-
-slice-aggregate-strays : tie.Need-slice-aggregate-strays
-slice-aggregate-strays c = search needs
-
-strays-requires : tie.Need-strays-requires
-strays-requires c κs = (listed (c .before .before .before .before .before .before), (marked (c .before .before .before .before .before .before), c .before .before .before .before .before .before .before .before .before .before .before .before .before .before .before .before .before .before .before .pre .1))
-
-refused-requires-4 : tie.Need-refused-requires-4
-refused-requires-4 c κs = search needs
-
 same-length-3 : tie.Need-same-length-3
 same-length-3 c = search needs
 
-same-length-4 : tie.Need-same-length-4
-same-length-4 c = search needs
-
-returns-4 : tie.Need-returns-4
-returns-4 c =
-    let l = listed (c .before .before .before .before .before .before .before .before .before .before .before) in
-    rw (c .refused4 .ensures) (refused-links _ _ _ (l .shaped) (l .sound) (vacant (c .before .before .before .before .before .before .before .before)) (sym (c .before .before .before .before .strays .ensures .0) ∙ c .before .if4 .taken))
-
-slice-aggregate-grow : tie.Need-slice-aggregate-grow
-slice-aggregate-grow c = search needs
-
-grow-requires : tie.Need-grow-requires
-grow-requires c κs = (listed (c .before .before .before .before .before .before .before .before .before .before .before .before .before), (marked (c .before .before .before .before .before .before .before .before .before .before .before .before .before), (linked (c .before .before .before), c .before .before .before .before .before .before .strays .ensures .1 (c .before .before .before .if4 .left))))
-
-refused-requires-5 : tie.Need-refused-requires-5
-refused-requires-5 c κs = search needs
-
-same-length-5 : tie.Need-same-length-5
-same-length-5 c = search needs
-
-same-length-6 : tie.Need-same-length-6
-same-length-6 c = search needs
-
-returns-5 : tie.Need-returns-5
-returns-5 c =
-    let l = listed (c .before .before .before .before .before .before .before .before .before .before .before .before .before .before .before .before .before .before .before) in
-    rw (c .refused5 .ensures) (refused-tree _ _ _ (l .shaped) (l .sound) (vacant (c .before .before .before .before .before .before .before .before .before .before .before .before .before .before .before .before)) (linked (c .before .before .before .before .before .before .before .before .before)) (not-false _ (sym (c .before .before .before .before .before .grow .ensures .good) ∙ not-true _ (c .before .if5 .taken))))
-
-same-length-7 : tie.Need-same-length-7
-same-length-7 c = search needs
-
-same-length-8 : tie.Need-same-length-8
-same-length-8 c = search needs
-
-returns-6 : tie.Need-returns-6
-returns-6 c =
-    let l = listed (c .before .before .before .before .before .before .before .before .before .before .before .before .before .before .before .before .before .before) in
-    let e = not-false _ (c .if5 .left) in
-    examined _ _ _ (l .shaped) (l .sound) (vacant (c .before .before .before .before .before .before .before .before .before .before .before .before .before .before .before)) (linked (c .before .before .before .before .before .before .before .before)) (not-true _ (sym (c .before .before .before .before .grow .ensures .good) ∙ e)) _ l (c .before .before .before .before .grow .ensures .ordered e)
+returns-3 : tie.Need-returns-3
+returns-3 c =
+    let after = c .before .before .before in
+    let l = listed (after .before .before .before .before) in
+    examined _ _ _ (l .shaped) (l .sound) _ _ (after .tangled .ensures) l
 
 pub examine-spec : {M : Type 1} → statement M
 examine-spec =
@@ -138,23 +98,8 @@ examine-spec =
     refused-requires-2
     same-length
     returns-2
-    slice-aggregate-spoiled
-    spoiled-requires
-    refused-requires-3
+    slice-aggregate-tangled
+    tangled-requires
     same-length-2
-    returns-3
-    slice-aggregate-strays
-    strays-requires
-    refused-requires-4
     same-length-3
-    same-length-4
-    returns-4
-    slice-aggregate-grow
-    grow-requires
-    refused-requires-5
-    same-length-5
-    same-length-6
-    returns-5
-    same-length-7
-    same-length-8
-    returns-6)
+    returns-3)

@@ -1,8 +1,8 @@
 -- `read` answers the refusal, and lists and sizes an accepted table.
 use mathlib.Core.Path.{sym, _∙_}
 use Rattle.table.proofs.Accepted.{refusal-none}
-use Rattle.records.proofs.Rooting.{unfilled}
-use Rattle.records.proofs.Reached.{filled-chain}
+use Rattle.trees.proofs.Rooting.{unfilled}
+use Rattle.trees.proofs.Reached.{filled-chain}
 use Rattle.records.proofs.Answer.{sized, no-nodes}
 use borrow.Author.Needs.{needs}
 use Rattle.records.proofs.read.Statement.{statement}
@@ -43,9 +43,10 @@ returns-2 c =
 
 measure-requires : tie.Need-measure-requires
 measure-requires c κs =
+    let at-if1 = c .before .before .before .before in
     let traced = c .before .before .before .before .before .before .before .before .before .before in
     let s = traced .before .before .before .before .before .before .before in
-    let e = c .before .before .before .before .if1 .left in
+    let e = at-if1 .if1 .left in
     let o = traced .trace .ensures .accepted e .ordered in
     (refusal-none _ _ .0 (sym (traced .trace .ensures .refusal) ∙ e) .0, ((o .enough, o .queued (c .before .before .if2 .left)), unfilled _ (s .args .sizes .now) (s .pre .0 .1)))
 
@@ -60,9 +61,11 @@ same-length-9 c = search needs
 
 returns-3 : tie.Need-returns-3
 returns-3 c =
+    let at-if2 = c .before .before .before .before .before in
+    let at-if1 = at-if2 .before .before in
     let traced = c .before .before .before .before .before .before .before .before .before .before .before .before .before in
-    let l = traced .trace .ensures .accepted (c .before .before .before .before .before .before .before .if1 .left) in
-    sized _ _ _ _ _ _ (traced .trace .ensures) (λ z. filled-chain _ _ _ (l .ordered .enough) (l .ordered .queued (c .before .before .before .before .before .if2 .left)) (l .nodes) _ (c .before .before .measure .ensures))
+    let l = traced .trace .ensures .accepted (at-if1 .if1 .left) in
+    sized _ _ _ _ _ _ (traced .trace .ensures) (λ z. filled-chain _ _ _ (l .ordered .enough) (l .ordered .queued (at-if2 .if2 .left)) (l .nodes) _ (c .before .before .measure .ensures))
 
 pub read-spec : {M : Type 1} → statement M
 read-spec =

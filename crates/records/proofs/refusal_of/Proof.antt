@@ -1,6 +1,6 @@
 -- `refusal_of` answers the refusal that a tracing answers.
 use mathlib.Core.Path.{refl}
-use Rattle.records.proofs.Zeros.{blank}
+use Rattle.chains.proofs.Zeros.{blank}
 use borrow.Author.Needs.{needs}
 use Rattle.records.proofs.refusal_of.Statement.{statement}
 use Rattle.records.proofs.refusal_of.Tie as tie

@@ -23,10 +23,16 @@ tag-requires : tie.Need-tag-requires
 tag-requires c κs = search needs
 
 returns-4 : tie.Need-returns-4
-returns-4 c = tag-given _ (c .before .before .before .before .if1 .left) (c .before .before .before .if2 .left) (c .before .before .if3 .left) (λ e. c .if4 .taken (c .before .tag .ensures .0 ∙ e))
+returns-4 c =
+    let at-if2 = c .before .before .before in
+    let at-if1 = at-if2 .before in
+    tag-given _ (at-if1 .if1 .left) (at-if2 .if2 .left) (c .before .before .if3 .left) (λ e. c .if4 .taken (c .before .tag .ensures .0 ∙ e))
 
 returns-5 : tie.Need-returns-5
-returns-5 c = well-formed _ (c .before .before .before .before .if1 .left) (c .before .before .before .if2 .left) (c .before .before .if3 .left) (sym (c .before .tag .ensures .0) ∙ c .if4 .left)
+returns-5 c =
+    let at-if2 = c .before .before .before in
+    let at-if1 = at-if2 .before in
+    well-formed _ (at-if1 .if1 .left) (at-if2 .if2 .left) (c .before .before .if3 .left) (sym (c .before .tag .ensures .0) ∙ c .if4 .left)
 
 pub shape-spec : {M : Type 1} → statement M
 shape-spec = tie.close (tie.spec returns returns-2 returns-3 tag-requires returns-4 returns-5)

@@ -29,7 +29,9 @@ same-length-4 : tie.Need-same-length-4
 same-length-4 c = search needs
 
 returns-2 : tie.Need-returns-2
-returns-2 c = rw (c .refused .ensures) (refused-placements _ _ _ _ _ (c .before .before .before .before .before .before .before .before .examine .ensures) (c .before .before .if1 .left) (c .before .if2 .taken))
+returns-2 c =
+    let at-examine = c .before .before .before .before .before .before .before .before in
+    rw (c .refused .ensures) (refused-placements _ _ _ _ _ (at-examine .examine .ensures) (c .before .before .if1 .left) (c .before .if2 .taken))
 
 same-length-5 : tie.Need-same-length-5
 same-length-5 c = search needs

@@ -1,13 +1,19 @@
 -- What a reading of a table promises of its answer and of the two lists that it is lent, and what the calls that read a table keep of it.
 use mathlib.Core.Path.{_≡_}
+use mathlib.Core.Bool.{cond}
 use mathlib.Core.List.{List}
 use Prim.Native.Nat.{ℕ, _≤_}
 use lib.ListN.{length, getD, take}
 use Rattle.records.specs.declared.Reading.{Reading}
 use Rattle.table.specs.Table.{chain, Chained}
 use Rattle.table.specs.Tree.{size, treeAt}
-use Rattle.table.specs.Refusal.{fault, refusal}
-use Rattle.records.specs.inner.Steps.{Ordered}
+use Rattle.table.specs.Refusal.{badFree, badLinks, badTree, fault, refusal}
+use Rattle.trees.specs.inner.Steps.{Ordered}
+
+-- What the tests of a table whose chain is listed answer: causes 8, 4 and 5, in this order, or 0.
+pub record Checked (t : List ℕ) (r n : ℕ) (order : List ℕ) : Type 0 where
+  pub cause : r ≡ cond (badFree t) 8 (cond (badLinks t) 4 (cond (badTree t) 5 0))
+  pub ordered : r ≡ 0 → Ordered t n order
 
 -- n is the number of nodes, the first n numbers of list are the chain, and those of order the nodes, breadth first.
 pub record Traced (t : List ℕ) (n : ℕ) (list order : List ℕ) : Type 0 where

@@ -15,7 +15,8 @@ next-requires : tie.Need-next-requires Inv-loop μ-loop
 next-requires c κs = let s = c .before .before .before in omega (arith, records-bounds (s .args .table .now) (refusal-none (s .args .table .now) _ .0 (s .pre .0) .0))
 
 loop-holds : tie.Need-loop-holds Inv-loop μ-loop
-loop-holds c = let s = c .before .before .before .before in going-start _ _ (s .pre .0) (s .pre .1 .0) (s .pre .1 .1) (c .next .ensures .0) (c .next .ensures .1)
+loop-holds c =
+    let s = c .before .before .before .before in going-start _ _ (s .pre .0) (s .pre .1 .0) (s .pre .1 .1) (c .next .ensures .0) (c .next .ensures .1)
 
 put-node-requires : tie.Need-put-node-requires Inv-loop μ-loop
 put-node-requires c κs =
