@@ -1,4 +1,5 @@
-// What the calls that hang, hold and cut leave of a table, and what any list of them keeps of an accepted one. The statements are in specs, the proofs in proofs; two are told of the running code as well.
+// What the calls that hang, hold and cut leave of a table, and what any list of them keeps of an accepted one. The statements are in specs, the proofs in
+// proofs; two are told of the running code as well.
 use hanging::Hung;
 use hanging::cut;
 use hanging::hang;

@@ -88,6 +88,8 @@ fn cut_leaf(table: &mut [u8], chain: &[u16], nodes: usize, k: usize)
 }
 
 // Cuts a leaf off a tree of a table: 0, or why it cannot be cut. The table is kept on a refusal.
+// Promised beyond this contract (promises/specs/Promises): `CutsALeaf`, `CutsTheLast`, `CutRestores`, `CallsConserve`, `NeverTaken`, `OffChainCut`,
+// `OffChainAfter`.
 pub fn cut(table: &mut [u8], node: u16) -> u16
     ensures { λ r. ⌜ r ≡ cutRefusal (now (table .entry)) node ⌝ }
     ensures { λ _. ⌜ now (table .exit) ≡ afterCut (now (table .entry)) node ⌝ }

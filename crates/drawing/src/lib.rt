@@ -44,7 +44,8 @@ struct Extent {
     height: usize,
 }
 
-// The trees one under the other, from the roots that lead the order: of each the roles and W of every spine first, then the points (document 02, Paper 3), until no node is left. Lists are lent for the roles and for W.
+// The trees one under the other, from the roots that lead the order: of each the roles and W of every spine first, then the points (document 02, Paper 3),
+// until no node is left. Lists are lent for the roles and for W.
 fn draw_trees(
     table: &[u8],
     sizes: &[u16],
@@ -106,6 +107,8 @@ pub fn plan_of(
 }
 
 // Draws the trees of a table: its refusal and plan, and the placements of its nodes. All placements are kept on a refusal.
+// Promised beyond this contract (promises/specs/Promises): `AcceptedIsGood`, `AtMost37`, `RowsNotShared`, `RulerCovers`, `RowsFilled`,
+// `PlainKeepsOthers`, `OffChainPlain`.
 pub fn draw(table: &[u8], placements: &mut [u16]) -> Drawn
     ensures { λ r. ⌜ (r ≡ drawnOf (now (table .entry)) (now (placements .entry)))
         × (now (placements .exit) ≡ placedIn (now (table .entry)) (now (placements .entry))) ⌝ }

@@ -11,6 +11,7 @@ ghost use mathlib.Core.Path.{_≡_};
 ghost use Rattle.pen.specs.Strokes.{told, strokeOf};
 
 // The stroke of that number, from 0. The pitch of the grid is counted in quarter millimetres.
+// Promised beyond this contract (promises/specs/Promises): `LinesPlottedOnce`, `StrokesNumbered`, `OneQuarter`, `OffChainStroke`.
 pub fn stroke(table: &[u8], placements: &[u16], pitch: u8, number: u64) -> Stroke
     ensures { λ r. ⌜ told r ≡ strokeOf (now (table .entry)) (now (placements .entry)) pitch number ⌝ }
 {

@@ -65,6 +65,7 @@ pub fn compare_apart(p: Point, q: Point, r: Point, s: Point) -> Meeting
 }
 
 // How do the segments from p to q and from r to s meet?
+// Promised beyond this contract (promises/specs/Promises): `OneMeeting`, `SomeMeeting`.
 pub fn compare(p: Point, q: Point, r: Point, s: Point) -> Meeting
     ensures { λ m. ⌜ MeetSo m p q r s ⌝ }
 {

@@ -13,6 +13,7 @@ ghost use Rattle.text.specs.Text.{textWithin};
 pub const ROOM: usize = 98328;
 
 // Draws the trees of a table and writes the text at the start of out; answers how many bytes. A buffer without ROOM is left as it is.
+// Promised beyond this contract (promises/specs/Promises): `NeverSix`, `DigitsWhole`, `OffChainText`.
 pub fn write_text(table: &[u8], out: &mut [u8]) -> usize
     ensures { λ r. ⌜ r ≡ length (textWithin (length (now (out .entry))) (now (table .entry))) ⌝ }
     ensures { λ r. ⌜ now (out .exit) ≡ textWithin (length (now (out .entry))) (now (table .entry)) ++ drop r (now (out .entry)) ⌝ }

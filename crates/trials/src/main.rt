@@ -1,4 +1,5 @@
-// Runs the drawer, the check, the allowed width, the wide drawer, the pen, hanging, at once and in two halves, cutting and the comparison of two lines on the cases of standard input, and prints every answer.
+// Runs the drawer, the check, the allowed width, the wide drawer, the pen, hanging, at once and in two halves, cutting and the comparison of two lines on the
+// cases of standard input, and prints every answer.
 // What it must print is made by tests/make_trials.py from the reference program. Proved safe; what it prints is tested.
 //
 // A case is a head of four words (16 bits, low byte first) named kind, count, first, step, and what the kind says:

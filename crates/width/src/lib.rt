@@ -12,6 +12,7 @@ fn floor_log2(n: u64) -> u32
     63 - u64::leading_zeros(n)
 }
 
+// Promised beyond this contract (promises/specs/Promises): `OneFloor`, `AtMost37`.
 pub fn allowed_width(n: u64) -> u64
     ensures { λ r. ⌜ r ≡ allowedWidth n ⌝ }
 {
