@@ -6,7 +6,9 @@ use Prim.Native.Nat.{ℕ, zero, suc, _+_, _-_, _*_, _≤_, _<_}
 use native.Mathlib.Numerals.{sub-one}
 use native.Mathlib.Omega.{arith}
 use lib.Dec.{T}
-use lib.ListN.{length, getD}
+use lib.ListN.{length}
+use Rattle.segment.specs.declared.Point.{Point}
+use Rattle.placements.specs.Placements.{pointOf}
 use Rattle.table.specs.Lists.{member}
 use Rattle.table.specs.Table.{records, nextOf, tagOf, follow, chain}
 use Rattle.table.specs.Refusal.{refusal}
@@ -17,10 +19,10 @@ use Rattle.text.specs.Text.{nodeLine, nodeLines}
 use Rattle.fields.specs.inner.Put.{Put}
 use Rattle.fields.proofs.Puts.{put-then, put-length}
 
-pub put-node : (t p : List ℕ) (k g : ℕ) {a b c : List ℕ} {i j r : ℕ} → g ≡ tagOf t k → Put (decimal k) a i j b →
-    Put (fields (getD p (2 * k) 0 ∷ getD p (2 * k + 1) 0 ∷ g ∷ [])) b j r c → Put (nodeLine t p k) a i r c
+pub put-node : (t p : List ℕ) (k g : ℕ) {P : Point} {a b c : List ℕ} {i j r : ℕ} → P ≡ pointOf p k → g ≡ tagOf t k → Put (decimal k) a i j b →
+    Put (fields (P .column ∷ P .row ∷ g ∷ [])) b j r c → Put (nodeLine t p k) a i r c
 unfolding nodeLine
-put-node t p k g e x y = put-then x (rw e at y)
+put-node t p k g d e x y = put-then x (rw (d, e) at y)
 
 -- A chain is followed to its end in as many steps as it has nodes.
 follow-length : (n : ℕ) (t : List ℕ) (k : ℕ) → follow (length (follow n t k)) t k ≡ follow n t k

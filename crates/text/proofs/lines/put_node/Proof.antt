@@ -12,26 +12,8 @@ cast-put-decimal c = search needs
 put-decimal-requires : tie.Need-put-decimal-requires
 put-decimal-requires c κs = let s = c .before .before .before .before in omega (arith, length-short (s .args .k) (s .pre .0 .1), s .pre .1 .1)
 
-mul-column : tie.Need-mul-column
-mul-column c = search needs
-
-mul-column-2 : tie.Need-mul-column-2
-mul-column-2 c = search needs
-
-shared-slice-read-column : tie.Need-shared-slice-read-column
-shared-slice-read-column c = search needs
-
-mul-row : tie.Need-mul-row
-mul-row c = search needs
-
-add-row : tie.Need-add-row
-add-row c = search needs
-
-mul-row-2 : tie.Need-mul-row-2
-mul-row-2 c = search needs
-
-shared-slice-read-row : tie.Need-shared-slice-read-row
-shared-slice-read-row c = search needs
+point-requires : tie.Need-point-requires
+point-requires c κs = search needs
 
 tag-requires : tie.Need-tag-requires
 tag-requires c κs = search needs
@@ -41,7 +23,7 @@ cast-put-three c = search needs
 
 put-three-requires : tie.Need-put-three-requires
 put-three-requires c κs =
-    let d = c .before .before .before .before .before .before in
+    let d = c .before .before .before .before .before in
     let s = d .before .before .before .before .before in
     omega (arith, length-short (s .args .k) (s .pre .0 .1), s .pre .1 .1, d .put-decimal .ensures .place, d .put-decimal .kept .1 .0)
 
@@ -52,9 +34,9 @@ returns : tie.Need-returns
 returns c =
     let three = c .before .before in
     let tag = three .before .before in
-    let d = tag .before .before .before .before .before in
+    let d = tag .before .before .before .before in
     let s = d .before .before .before .before .before in (
-      put-node (s .args .table .now) (s .args .placements .now) _ _ (tag .tag .ensures .0) (d .put-decimal .ensures) (three .put-three .ensures .0),
+      put-node (s .args .table .now) (s .args .placements .now) _ _ (tag .before .point .ensures) (tag .tag .ensures .0) (d .put-decimal .ensures) (three .put-three .ensures .0),
       omega (arith, length-short (s .args .k) (s .pre .0 .1), d .put-decimal .ensures .place, three .put-three .ensures .1),
     )
 
@@ -64,13 +46,7 @@ put-node-spec =
     (tie.spec
     cast-put-decimal
     put-decimal-requires
-    mul-column
-    mul-column-2
-    shared-slice-read-column
-    mul-row
-    add-row
-    mul-row-2
-    shared-slice-read-row
+    point-requires
     tag-requires
     cast-put-three
     put-three-requires
