@@ -1,4 +1,5 @@
 // The points that the pen goes to.
+use placements::point;
 ghost use mathlib.Core.Path.{_≡_};
 ghost use Prim.Native.Nat.{_+_, _*_, _^_, _<_};
 ghost use lib.ListN.{length};
@@ -48,5 +49,6 @@ pub fn pen_at(placements: &[u16], pitch: u8, k: usize) -> PenPoint
     requires { ⌜ 2 * k + 1 < length (now placements) ⌝ }
     ensures { λ r. ⌜ r ≡ penAt (now (placements .entry)) pitch k ⌝ }
 {
-    point_of(placements[2 * k], placements[2 * k + 1], pitch)
+    let at = point(placements, k);
+    point_of(at.column, at.row, pitch)
 }
