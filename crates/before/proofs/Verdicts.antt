@@ -1,4 +1,5 @@
--- Document 02, Paper 7: "Good sheets are the same ones as before", what was 23 is 23 or 25, and every other verdict is as it was: `recast`. Rests on Clashes, Decide and Unique.
+-- Document 02, Paper 7: "Good sheets are the same ones as before", what was 23 is 23 or 25, and every other verdict is as it was: `recast`. Rests on
+-- Clashes, Decide and Unique.
 use mathlib.Core.Path.{_≡_, refl, sym, subst}
 use mathlib.Core.Logic.{_≢_, _⊎_, inl, inr, ⊎-elim}
 use mathlib.Core.List.{List}

@@ -1,5 +1,5 @@
--- The parents of the children, as they are set node by node (`Upward`), and what is above a node then: its parent (`above-child`), or, of a root, itself (`above-root`). Rests on
--- the ends of lines, and on the laws of a listed chain.
+-- The parents of the children, as they are set node by node (`Upward`), and what is above a node then: its parent (`above-child`), or, of a root,
+-- itself (`above-root`). Rests on the ends of lines, and on the laws of a listed chain.
 use mathlib.Core.Path.{_≡_, refl, sym, ap, _∙_, subst}
 use mathlib.Core.Logic.{_≢_, _⊎_, inl, inr, ⊎-elim}
 use mathlib.Core.List.{List}

@@ -1,4 +1,5 @@
--- The laws that a reading needs, and those of a chain that is listed (Nodes). Rest on the laws of tables, chains and trees; Scan, Zeros and Children are passed on.
+-- The laws that a reading needs, and those of a chain that is listed (Nodes). Rest on the laws of tables, chains and trees; Scan, Zeros and Children
+-- are passed on.
 pub mod Form
 pub mod Nodes
 pub mod Answer

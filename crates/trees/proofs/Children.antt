@@ -1,4 +1,5 @@
--- The children of the chained nodes of an accepted table: none twice (`children-distinct`), and with the roots as many as the nodes (`children-length`). Rests on Accepted and Order.
+-- The children of the chained nodes of an accepted table: none twice (`children-distinct`), and with the roots as many as the nodes
+-- (`children-length`). Rests on Accepted and Order.
 use mathlib.Core.Path.{_≡_}
 use mathlib.Core.Logic.{_⊎_, inl, inr}
 use mathlib.Core.List.{List, _++_}

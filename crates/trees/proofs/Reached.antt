@@ -1,5 +1,5 @@
--- A whole breadth-first order: children stand after their parents, each node of the order is a node of the trees, and the order is as long as the chain just where all
--- is reached. Rests on Lists, Chain, Causes, Scan and Order.
+-- A whole breadth-first order: children stand after their parents, each node of the order is a node of the trees, and the order is as long as the
+-- chain just where all is reached. Rests on Lists, Chain, Causes, Scan and Order.
 use mathlib.Core.Path.{_≡_, refl, sym, ap, _∙_, subst}
 use mathlib.Core.Logic.{_⊎_, inl, inr, ⊎-elim, ⊎-map}
 use mathlib.Core.Bool.{Bool, true, false, not, false≢true}

@@ -1,4 +1,5 @@
--- The sizes of the subtrees of an accepted table, filled in from the last node of a whole breadth-first order to the first. Rests on Accepted, Order and Reached.
+-- The sizes of the subtrees of an accepted table, filled in from the last node of a whole breadth-first order to the first. Rests on Accepted, Order
+-- and Reached.
 use mathlib.Core.Path.{_≡_, refl, sym, ap, _∙_, subst}
 use mathlib.Core.Logic.{_⊎_, inl, inr, ⊎-elim}
 use mathlib.Core.List.{List, []}

@@ -14,7 +14,8 @@ ghost use Rattle.table.specs.Refusal.{badLinks};
 ghost use Rattle.chains.specs.inner.Listing.{Listed, Marked};
 ghost use Rattle.trees.specs.inner.Steps.{Tallied, Grown};
 
-// Whether the records of the chain make trees; then lists their nodes, breadth first from the roots on, in place of how often they are named. The marks make way for the roots.
+// Whether the records of the chain make trees; then lists their nodes, breadth first from the roots on, in place of how often they are named. The
+// marks make way for the roots.
 pub fn grow(table: &[u8], chain: &[u16], nodes: usize, mark: &mut [u16], order: &mut [u16]) -> bool
     requires { ⌜ Listed (now table) (chainOf (now table)) nodes (now chain) ⌝ }
     requires { ⌜ Marked (chainOf (now table)) (now mark) ⌝ }

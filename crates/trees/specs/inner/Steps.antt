@@ -50,8 +50,8 @@ present [] = []
 present (zero ∷ ks) = present ks
 present (suc k ∷ ks) = suc k ∷ present ks
 
--- A breadth-first order, as far as its node h: the roots, then the children of the first h nodes, each of the h before its children. No record stands there more often
--- than on the chain.
+-- A breadth-first order, as far as its node h: the roots, then the children of the first h nodes, each of the h before its children. No record stands
+-- there more often than on the chain.
 pub record Queue (t : List ℕ) (h : ℕ) (order : List ℕ) : Type 0 where
   pub listed : order ≡ roots t ++ present (links t (take h order))
   pub early : (i : ℕ) → i < h → i < length (roots t) + length (present (links t (take i order)))
