@@ -1,4 +1,5 @@
 // What a case brings: its head, the bytes of a table or a name, the numbers of placements, the number of a stroke. A word is read at a time.
+use line::widened;
 ghost use mathlib.Core.Path.{_≡_};
 ghost use Prim.Native.Nat.{_+_, _<_, _≤_};
 ghost use lib.ListN.{length};
@@ -15,12 +16,6 @@ pub fn size(x: u16) -> usize
     ensures { λ r. ⌜ r ≤ 65535 ⌝ }
 {
     x as usize
-}
-
-pub fn number(x: u16) -> u64
-    ensures { λ r. ⌜ r ≤ 65535 ⌝ }
-{
-    x as u64
 }
 
 fn byte(x: u8) -> usize
@@ -55,10 +50,10 @@ pub fn next_head() -> Head {
 
 // The next number of 64 bits, in four words.
 pub fn next_number() -> u64 {
-    number(next_word())
-        + 0x1_0000 * number(next_word())
-        + 0x1_0000_0000 * number(next_word())
-        + 0x1_0000_0000_0000 * number(next_word())
+    widened(next_word())
+        + 0x1_0000 * widened(next_word())
+        + 0x1_0000_0000 * widened(next_word())
+        + 0x1_0000_0000_0000 * widened(next_word())
 }
 
 // The next bytes: how many they are.

@@ -32,7 +32,6 @@ use crate::input::give;
 use crate::input::next_bytes;
 use crate::input::next_head;
 use crate::input::next_number;
-use crate::input::number;
 use crate::input::size;
 use crate::text::put;
 use crate::text::put_changed;
@@ -44,6 +43,7 @@ use drawing::Plan;
 use hanging::Hung;
 use line::end;
 use line::start;
+use line::widened;
 use pen::strokes::Stroke;
 use records::writing::copy;
 use segment::meeting::Meeting;
@@ -61,16 +61,16 @@ pub struct State {
 }
 
 fn put_plan(plan: Plan) {
-    put_field(number(plan.nodes));
-    put_field(number(plan.width));
-    put_field(number(plan.height));
+    put_field(widened(plan.nodes));
+    put_field(widened(plan.width));
+    put_field(widened(plan.height));
     put(b"\n");
 }
 
 fn run_draw(table: &[u8], places: &mut [u16]) {
     let drawn = drawing::draw(table, places);
     put(b"draw");
-    put_field(number(drawn.refusal));
+    put_field(widened(drawn.refusal));
     put_plan(drawn.plan);
     put_places(places);
 }
@@ -79,7 +79,7 @@ fn put_wide(answer: Wide) {
     put(b"wide");
     match answer {
         Wide::Planned(plan) => put_plan(plan),
-        Wide::Refused(refusal) => put_line(b" refused", number(refusal)),
+        Wide::Refused(refusal) => put_line(b" refused", widened(refusal)),
     }
 }
 
@@ -89,11 +89,11 @@ fn run_wide(table: &[u8], places: &mut [u16]) {
 }
 
 fn run_check(table: &[u8], places: &[u16]) {
-    put_line(b"check", number(verdict::check(table, places)));
+    put_line(b"check", widened(verdict::check(table, places)));
 }
 
 fn run_width(h: Head) {
-    let n = number(h.count) + 65536 * number(h.first) + 4294967296 * number(h.step);
+    let n = widened(h.count) + 65536 * widened(h.first) + 4294967296 * widened(h.step);
     put_line(b"width", width::allowed_width(n));
 }
 
@@ -102,7 +102,7 @@ fn put_stroke(answer: Stroke) {
         Stroke::Lift(point) => put_point(b"stroke lift", point),
         Stroke::Draw(point) => put_point(b"stroke draw", point),
         Stroke::Done => put(b"stroke done\n"),
-        Stroke::Refused(refusal) => put_line(b"stroke refused", number(refusal)),
+        Stroke::Refused(refusal) => put_line(b"stroke refused", widened(refusal)),
     }
 }
 
@@ -139,8 +139,8 @@ fn run_compare() {
 // What hanging or its first half says: the record, or the refusal.
 fn put_hung(answer: Hung) {
     match answer {
-        Hung::Leaf(record) => put_line(b"", number(record)),
-        Hung::Refused(refusal) => put_line(b" refused", number(refusal)),
+        Hung::Leaf(record) => put_line(b"", widened(record)),
+        Hung::Refused(refusal) => put_line(b" refused", widened(refusal)),
     }
 }
 
@@ -157,11 +157,11 @@ fn run_hang(table: &mut [u8], h: Head) {
 fn run_held(table: &mut [u8], h: Head) {
     let held = (next_number() % 65536) as u16;
     let refusal = hanging::hang_held(table, h.count, (h.first % 256) as u8, h.step, held);
-    put_line(b"held", number(refusal));
+    put_line(b"held", widened(refusal));
 }
 
 fn run_cut(table: &mut [u8], node: u16) {
-    put_line(b"cut", number(hanging::cut(table, node)));
+    put_line(b"cut", widened(hanging::cut(table, node)));
 }
 
 // A call that writes to the table.

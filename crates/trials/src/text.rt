@@ -1,6 +1,6 @@
 // Text on standard output, piece by piece.
-use crate::input::number;
 use crate::input::word;
+use line::widened;
 use pen::points::PenPoint;
 ghost use Prim.Native.Nat.{_+_, _<_, _≤_};
 ghost use lib.ListN.{length};
@@ -41,7 +41,7 @@ pub fn put_point(name: &[u8], point: PenPoint) {
 fn put_numbers(numbers: &[u16]) {
     let mut i = 0;
     while i < numbers.len() {
-        put_field(number(numbers[i]));
+        put_field(widened(numbers[i]));
         i += 1;
     }
 }
@@ -50,7 +50,7 @@ fn mixed(sum: u64, x: u16) -> u64
     requires { ⌜ sum < 4294967291 ⌝ }
     ensures { λ r. ⌜ r < 4294967291 ⌝ }
 {
-    (65599 * sum + number(x) + 1) % 4294967291
+    (65599 * sum + widened(x) + 1) % 4294967291
 }
 
 fn sum_of(numbers: &[u16]) -> u64 {
@@ -95,7 +95,7 @@ fn put_words(table: &[u8], at: usize)
 {
     let mut i = 0;
     while i < 4 {
-        put_field(number(word(table, at + 2 * i)));
+        put_field(widened(word(table, at + 2 * i)));
         i += 1;
     }
 }
