@@ -24,8 +24,9 @@
  *   10  no record is free
  *   11  another record would now be used
  *
- * What is said here beyond an answer and what is written (that drawings are good, narrow and short, that cutting restores every byte, and the like) is proved: each such
- * promise stands in crates/promises/specs/Promises.antt, and at the Rattle function that the call hands on to.
+ * What is said below of drawings and tables beyond an answer and what is written (that drawings are good, narrow and short, that cutting restores every
+ * byte, and the like) is proved: each such promise stands in crates/promises/specs/Promises.antt, and is named at the Rattle function that the call hands
+ * on to. Time, stack and threads are not proved.
  *
  * A pointer is never NULL, not even with the length 0; placements are aligned as uint16_t is, a point as double is, and no two of table, placements and point
  * overlap. */
@@ -66,8 +67,8 @@ uint32_t bt_check(const uint8_t *table, size_t table_len, const uint16_t *placem
  * A line from a point to itself is parallel to every line; nothing is refused. */
 uint32_t bt_compare(uint16_t c1, uint16_t r1, uint16_t c2, uint16_t r2, uint16_t c3, uint16_t r3, uint16_t c4, uint16_t r4);
 
-/* The width that a drawing of so many nodes may have: 3 * floor(log2 nodes) + 1; 0 for 0 nodes and for more than 4,096; never above 37, which it is for 4,096. The width of
- * bt_draw keeps to it, and the height of bt_draw_wide. */
+/* The width that a drawing of so many nodes may have: 3 * floor(log2 nodes) + 1; 0 for 0 nodes and for more than 4,096; never above 37, which it is for 4,096.
+ * The width of bt_draw keeps to it, and the height of bt_draw_wide. */
 uint64_t bt_allowed_width(uint64_t nodes);
 
 /* One stroke of a pen that plots the lines of a table with any placements, good or not. Each line, from a node to a child of it, gives a lift to the parent and then

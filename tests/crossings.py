@@ -4,7 +4,7 @@ import itertools
 import racksheet
 import trees
 from slips import UPTO
-from trees import packed, plain
+from trees import bytes_of, plain
 
 TOP = 65535
 HALF = 32768
@@ -206,7 +206,7 @@ def sheets(t):
     for name, links, points, verdict in SHEETS:
         t.name(name)
         for words in (plain(links), reversed_chain(plain(links))):
-            t.table(packed(words))
+            t.table(bytes_of(words))
             t.numbers([0, 0] + [x for point in points for x in point])
             t.check()
             assert t.lines[-1] == 'check %d' % verdict, (name, t.lines[-1])

@@ -9,7 +9,7 @@ import trees
 from crossings import HALF, TOP, reversed_chain
 from hang_cut import edited
 from slips import UPTO
-from trees import packed, plain
+from trees import bytes_of, plain
 
 # Trees with their links, and their drawings as document 01 has them: the points of 1, 2, .., width and height.
 ONE = [(0, 0)], [(0, 0)], 1, 1
@@ -154,7 +154,7 @@ def tables(t):
     """Every call on the tables that were made by hand; the good ones with placements to spare, just enough and too few."""
     for name, words, says in TABLES:
         t.name(name)
-        data = packed(words)
+        data = bytes_of(words)
         if isinstance(says, int):
             assert t.every(data, 1000, 3, pitches=(255,)) == says, name
             continue
@@ -165,7 +165,7 @@ def tables(t):
     t.name('several trees and placements that are too few')
     for words in (plain([(0, 0)] * 2), ONES, GOOD, APART):
         for short in (1, 2, 2 * len(words)):
-            assert t.every(packed(words), 1000, 3, short=short) == 6
+            assert t.every(bytes_of(words), 1000, 3, short=short) == 6
 
 
 def stacked(parts, chain, record):
@@ -376,7 +376,7 @@ def sheets(t):
         t.name(name)
         for root in trees.from_links(links).roots():
             for words in (plain(links, root), reversed_chain(plain(links, root))):
-                t.table(packed(words))
+                t.table(bytes_of(words))
                 t.numbers([0, 0] + [x for point in points for x in point])
                 t.check()
                 assert t.lines[-1] == 'check %d' % verdict, (name, t.lines[-1])
@@ -398,7 +398,7 @@ def strokes(t, bits):
     """The strokes of the tables that were made by hand, on their drawings and on any placements; bits are those of a float."""
     for name, words, lines in STROKES:
         t.name(name)
-        t.table(packed(words))
+        t.table(bytes_of(words))
         for pitch, drawn in ((4, True), (10, False)):
             t.filled(2 * len(words), 1000, 7)
             if drawn:
@@ -487,10 +487,10 @@ def series(t):
     """The series that were made by hand; what is left is drawn."""
     for name, words, calls, left in SERIES:
         t.name(name)
-        t.table(packed(words))
+        t.table(bytes_of(words))
         for call in calls:
             halves.ask(t, call)
-        assert t.bytes == packed(edited(words, *left)), name
+        assert t.bytes == bytes_of(edited(words, *left)), name
         hang_cut.seen(t)
 
 

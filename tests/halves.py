@@ -4,7 +4,7 @@ import racksheet
 import trees
 from hang_cut import ALONE, EMPTY, FULL, ROOM, THREE, edited
 from slips import UPTO
-from trees import packed
+from trees import bytes_of
 
 # The words written over by a hang: in ROOM of 8 with the tag 5, left of 6 and right of 2; in EMPTY of 2 with the tag 9, the root.
 BELOW_6 = [(0, 2, 7), (6, 0, 8), (6, 1, 8), (8, 0, 0), (8, 3, 5)]
@@ -93,10 +93,10 @@ def series(t):
     """The series that were made by hand; what is left is drawn."""
     for name, words, calls, left in SERIES:
         t.name(name)
-        t.table(packed(words))
+        t.table(bytes_of(words))
         for call in calls:
             ask(t, call)
-        assert t.bytes == packed(edited(words, *left)), name
+        assert t.bytes == bytes_of(edited(words, *left)), name
         hang_cut.seen(t)
 
 

@@ -2,7 +2,7 @@
 import racksheet
 import trees
 from slips import UPTO
-from trees import packed, plain
+from trees import bytes_of, plain
 
 
 def edited(base, *edits):
@@ -96,7 +96,7 @@ def free_chains(t):
     for name, base, edits, refusal in FREE_CHAINS:
         words = edited(base, *edits)
         t.name(name)
-        assert t.every(packed(words), 1000, 3, leaf=6) == refusal, name
+        assert t.every(bytes_of(words), 1000, 3, leaf=6) == refusal, name
         if refusal:
             continue
         leaf, side = (6, 1) if base != EMPTY else (0, 0)
@@ -104,23 +104,23 @@ def free_chains(t):
         assert record == words[0][2], name
         if record:
             t.cut(record)
-        assert t.bytes == packed(words), name
+        assert t.bytes == bytes_of(words), name
         assert t.hold(leaf, side) == record, name
         assert t.held(leaf, side, 5, record) == (0 if record else 10), name
         if record:
             t.cut(record)
-        assert t.bytes == packed(words), name
+        assert t.bytes == bytes_of(words), name
     t.name('other causes beside the free chain')
     for words in (edited(ROOM, (0, 2, 11)), edited(ROOM, (9, 3, 1)), edited(ROOM, (9, 0, 8)), edited(ALONE, (0, 2, 1))):
-        t.every(packed(words), 1000, 3, short=2, leaf=6)
-        t.every(packed(words) + b'\0', 1000, 3, leaf=6)
-        t.every(packed(words)[:-3], 1000, 3, leaf=6)
+        t.every(bytes_of(words), 1000, 3, short=2, leaf=6)
+        t.every(bytes_of(words) + b'\0', 1000, 3, leaf=6)
+        t.every(bytes_of(words)[:-3], 1000, 3, leaf=6)
     t.name('long free chains')
     for n, last in ((0, 0), (0, 4096), (2048, 4097), (2048, 2048), (4095, 0), (4095, 4096)):
         words = plain([(k + 1, 0) for k in range(1, n)] + [(0, 0)] * (n > 0), n > 0)
         words[0][2] = n + 1
         words += [[k + 1, 0, 0, 0] for k in range(n + 1, 4096)] + [[last, 0, 0, 0]]
-        assert t.every(packed(words), 1000, 3, leaf=4096) == (8 if last else 0)
+        assert t.every(bytes_of(words), 1000, 3, leaf=4096) == (8 if last else 0)
 
 
 # Calls one after the other: the name, the table, and for each call its arguments, of a hang parent, side and tag, of a cut the node, and what it says.
@@ -171,7 +171,7 @@ def changes(t):
     """The calls that were made by hand, one after the other, and what is left, drawn."""
     for name, words, calls in CHANGES:
         t.name(name)
-        t.table(packed(words))
+        t.table(bytes_of(words))
         for asked, says in calls:
             begun = len(t.lines)
             (t.hang if len(asked) == 3 else t.cut)(*asked)
@@ -263,7 +263,7 @@ def damaged(t, rng):
         words = [int.from_bytes(data[i:i + 2], 'little') for i in range(0, len(data), 2)]
         for _ in range(rng.randint(1, 2)):
             words[rng.randrange(len(words))] = rng.choice((0, rng.randrange(len(data) // 8 + 1), rng.randrange(65536)))
-        t.every(packed([words]), rng.randrange(65536), rng.randrange(5), short=rng.choice((0, 0, 0, 0, 1)), pitches=(4,), leaf=rng.choice(record))
+        t.every(bytes_of([words]), rng.randrange(65536), rng.randrange(5), short=rng.choice((0, 0, 0, 0, 1)), pitches=(4,), leaf=rng.choice(record))
 
 
 def random_trees(t, rng):

@@ -29,7 +29,7 @@ import slips
 import trees
 from crossings import FIVE, FOUR, PATH, TOP, TWO
 from slips import UPTO
-from trees import packed, plain
+from trees import bytes_of, plain
 
 SEED = 20240501
 ALL_UP_TO = 600                     # placements that are printed one by one
@@ -75,7 +75,7 @@ class Trials:
 
     def numbers(self, places):
         self.places = list(places)
-        self.case(2, len(places), more=packed([places]))
+        self.case(2, len(places), more=bytes_of([places]))
 
     def filled(self, count, first=0, step=0):
         self.places = sequence(count, first, step)
@@ -84,7 +84,7 @@ class Trials:
     def changed(self, pairs):
         for at, number in pairs:
             self.places[at] = number
-        self.case(4, len(pairs), more=packed(pairs))
+        self.case(4, len(pairs), more=bytes_of(pairs))
 
     def placed(self):
         if len(self.places) <= ALL_UP_TO:
@@ -179,7 +179,7 @@ class Trials:
         assert self.lines[-1] == 'check 0'
 
     def compare(self, *ends):
-        self.case(15, more=packed(ends))
+        self.case(15, more=bytes_of(ends))
         self.lines.append('compare ' + COMPARED[racksheet.compare(*ends)])
 
     def every(self, data, first=0, step=0, short=0, extra=0, pitches=(0, 255), leaf=1):
@@ -225,25 +225,25 @@ def worked(t):
     ]
     sizes = {0: (0, 0), 1: (1, 1), 3: (2, 3), 6: (4, 5)}
     for links, root, points in drawn:
-        t.every(packed(plain(links, root)), 60000, 7, extra=3)
+        t.every(bytes_of(plain(links, root)), 60000, 7, extra=3)
         assert t.places[2:2 + 2 * len(points)] == [x for point in points for x in point]
         if len(links) in sizes:
             says('draw 0 %d %d %d' % (len(links), *sizes[len(links)]), back=3)
         # its mirror image drawn wide: the same sheet with columns and rows exchanged
-        t.table(packed(plain([(b, a) for a, b in links], root)))
+        t.table(bytes_of(plain([(b, a) for a, b in links], root)))
         t.filled(2 * len(links) + 5, 60000, 7)
         t.wide()
         assert t.places[2:2 + 2 * len(points)] == [x for column, row in points for x in (row, column)]
         if len(links) in sizes:
             says('wide %d %d %d' % (len(links), *sizes[len(links)][::-1]), back=2)
     # y and z (6 and 7) below 5, which hangs from a right knee
-    t.every(packed(plain([(0, 2), (3, 4), (0, 0), (5, 8), (6, 7), (0, 0), (0, 0), (9, 0), (10, 0), (11, 0), (0, 0)])), 60000, 7)
+    t.every(bytes_of(plain([(0, 2), (3, 4), (0, 0), (5, 8), (6, 7), (0, 0), (0, 0), (9, 0), (10, 0), (11, 0), (0, 0)])), 60000, 7)
     x, y = t.places[10:12]
     assert t.places[12:16] == [x - 1, y + 1, x - 1, y + 2]
     for links, places, verdict in (
             ([(2, 3), (0, 0), (0, 0)], [0, 0, 0, 0, 0, 1, 0, 2], 25), ([(2, 3), (0, 0), (0, 0)], [0, 0, 0, 0, 2, 1, 1, 1], 24),
             ([(2, 0), (0, 0)], [0, 0, 0, 0, 1, 0], 0), ([(0, 2), (0, 0)], [0, 0, 0, 0, 1, 0], 0)):      # good since document 02, Paper 4
-        t.table(packed(plain(links)))
+        t.table(bytes_of(plain(links)))
         t.numbers(places)
         t.check()
         says('check %d' % verdict)
@@ -257,13 +257,13 @@ def worked(t):
             (full, 0, 0), (full + [[0, 0, 0, 0]], 0, 1),                    # 32,776 bytes may be accepted, 32,784 gives 1
             ([[0, 1, 0, 0]], 0, 5), (plain([(2, 2), (0, 0)]), 0, 5),        # head alone with root 1; left and right naming one
             (plain([(2, 3), (0, 0), (0, 0)]), 1, 6)):                       # placements one number short
-        assert t.every(packed(words), 9, 11, short=short) == answer
+        assert t.every(bytes_of(words), 9, 11, short=short) == answer
 
 
 def refusals(t):
     """Every refusal in several ways, and which comes first where several causes hold."""
     good = hang_cut.SIX
-    data = packed(good)
+    data = bytes_of(good)
     for length in (0, 1, 7, 9, 15, 17, 55):                                 # 1
         t.every(data[:length], 9, 1)
     for length in (32775, 32777, 40000, 65535):
@@ -279,25 +279,25 @@ def refusals(t):
             [(5, 1, 5)], [(1, 2, 0), (4, 2, 3)], [(0, 0, 0), (0, 1, 6)]]                                        # 5
     apart = [[(1, 1, 0)], [(1, 2, 0)], [(5, 1, 0)]]                         # two trees, good since document 02, Paper 8
     for edits in head + chain + links + tree + apart:
-        t.every(packed(hang_cut.edited(good, *edits)), 1000, 3, leaf=6)
-        t.every(packed(hang_cut.edited(good, *edits)), 1000, 3, short=2, leaf=6)
+        t.every(bytes_of(hang_cut.edited(good, *edits)), 1000, 3, leaf=6)
+        t.every(bytes_of(hang_cut.edited(good, *edits)), 1000, 3, short=2, leaf=6)
     two = plain([(0, 0), (3, 0), (2, 0)])                                   # a cycle, reached from no root
-    t.every(packed(two), 1, 1)
+    t.every(bytes_of(two), 1, 1)
     long = plain([(0, 0)] * 4096)                                           # a long chain that runs into itself
     for last in (1, 4096, 4097):
         long[4096][0] = last
-        t.every(packed(long), 1, 1)
+        t.every(bytes_of(long), 1, 1)
     lone = [[0, 0, 0, 0]] + [[k * 7 % 9, 65535, 3, 1] for k in range(5)]    # nothing chained, rubbish behind
-    t.every(packed(lone), 1, 1)
+    t.every(bytes_of(lone), 1, 1)
     for short in (0, 1, 2, 12):                                             # 6
-        t.every(packed(good + [[9, 9, 9, 9]]), 1, 1, short=short)
-        t.every(packed([[0, 0, 0, 0]]), 1, 1, short=short)
+        t.every(bytes_of(good + [[9, 9, 9, 9]]), 1, 1, short=short)
+        t.every(bytes_of([[0, 0, 0, 0]]), 1, 1, short=short)
     t.every(data, 1, 1, extra=5)
 
 
 def strokes(t):
     """Strokes by hand: the program's sheet as the paper has it; the ends of numbers, pitches and places; 7 and what comes before it."""
-    t.table(packed(plain([(2, 3), (0, 0), (4, 5), (0, 0), (6, 0), (0, 0)])))
+    t.table(bytes_of(plain([(2, 3), (0, 0), (4, 5), (0, 0), (6, 0), (0, 0)])))
     t.filled(14)
     t.draw()
     at = [None, (0, 0), (1, 3), (1, 1), (1, 2), (3, 2), (2, 4)]
@@ -319,7 +319,7 @@ def strokes(t):
             t.stroke(pitch, number)
             assert t.lines[-1] == 'stroke refused 6'
     for words in (plain([], 0), plain([(0, 0)]), plain([], 0) + [[1] * 4]): # no line
-        t.table(packed(words))
+        t.table(bytes_of(words))
         t.filled(2 * len(words), 5, 5)
         for number in (0, 1, 2, 2 ** 32, 2 ** 64 - 1):
             t.stroke(4, number)
@@ -327,7 +327,7 @@ def strokes(t):
         t.stroke(0, 0)
     top = 65535
     for links in ([(2, 0), (0, 0)], [(0, 2), (0, 0)]):                      # one line, by any places, good or not
-        t.table(packed(plain(links)))
+        t.table(bytes_of(plain(links)))
         for points in ((0, 0, 1, 1), (top, 0, 0, top), (1, top, top, top), (7, 7, 7, 7), (3, 9, 2, 1)):
             t.numbers([top, 1, *points])
             for pitch in (1, 2, 3, 4, 127, 128, 255):
@@ -344,7 +344,7 @@ def damaged(t, rng):
         words = [int.from_bytes(data[i:i + 2], 'little') for i in range(0, len(data), 2)]
         for _ in range(rng.randint(1, 2)):
             words[rng.randrange(len(words))] = rng.choice((0, rng.randrange(len(data) // 8 + 1), rng.randrange(65536)))
-        t.every(packed([words]), rng.randrange(65536), rng.randrange(5), short=rng.choice((0, 0, 0, 0, 1)), pitches=(4,))
+        t.every(bytes_of([words]), rng.randrange(65536), rng.randrange(5), short=rng.choice((0, 0, 0, 0, 1)), pitches=(4,))
 
 
 def verdicts(t, rng):
@@ -379,7 +379,7 @@ def verdicts(t, rng):
         (four, [(1, 1), (1, 1), (0, 0), (1, 0)]), (four, [(1, 5), (2, 6), (0, 4), (0, 9)]),
         (four, [(2, 0), (3, 1), (1, 1), (0, 2)]), (five, [(0, 0), (0, 1), (0, 2), (0, 3), (0, 4)]),
     ]:
-        t.table(packed(plain(links)))
+        t.table(bytes_of(plain(links)))
         t.numbers([rng.randrange(65536), rng.randrange(65536)] + [x for point in points for x in point])
         t.check()
 
@@ -450,7 +450,7 @@ def level_lines(t):
     """The sheets with level lines that were made by hand."""
     for name, links, points, verdict in LEVEL_LINES:
         t.name(name)
-        t.table(packed(plain(links)))
+        t.table(bytes_of(plain(links)))
         t.numbers([0, 0] + [x for point in points for x in point])
         t.check()
         assert t.lines[-1] == 'check %d' % verdict, (name, t.lines[-1])

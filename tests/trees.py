@@ -202,7 +202,7 @@ def table(tree, rng, extra=0, shuffled=True, free=0):
     words[0][2] = free_ones[0] if free else 0
     for k, following in zip(free_ones, free_ones[1:] + [0]):
         words[k] = [following, 0, 0, 0]
-    return packed(words), record
+    return bytes_of(words), record
 
 
 def plain(links, root=1, tag=100, head=None):
@@ -214,7 +214,7 @@ def plain(links, root=1, tag=100, head=None):
     return words
 
 
-def packed(words):
+def bytes_of(words):
     """Records of words as bytes, low byte first."""
     return b''.join(w.to_bytes(2, 'little') for record in words for w in record)
 

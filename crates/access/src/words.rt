@@ -1,4 +1,4 @@
-// The words of a table's records (specs/Table), and the numbers of records as indices.
+// The words of a table's records (`table`, specs/Table), and the numbers of records as indices.
 ghost use mathlib.Core.Path.{_≡_};
 ghost use Prim.Native.Nat.{_<_};
 ghost use Rattle.table.specs.Table.{records, word as wordOf, nextOf, leftOf, rightOf, tagOf};

@@ -1,4 +1,4 @@
-// Writing: a word of a record (specs/Writing), and a copy of a table.
+// Writing: a word of a record (`table`, specs/Writing), and a copy of a table.
 ghost use mathlib.Core.Path.{_≡_};
 ghost use mathlib.Core.List.{_++_};
 ghost use Prim.Native.Nat.{_≤_, _<_};

@@ -57,7 +57,8 @@ pub record HungLeaf (t : List ℕ) (parent side tag : ℕ) : Type 0 where
   pub behind : Behind parent (firstFree t) (0 ∷ chain t) (0 ∷ chain (hung t parent side tag))
   pub taken : free t ≡ firstFree t ∷ free (hung t parent side tag)
 
--- "and puts it first among the free": the table is accepted; the trees are without that leaf; the other nodes have their tags; the chain is without it; it is the first of the free records.
+-- "and puts it first among the free": the table is accepted; the trees are without that leaf; the other nodes have their tags; the chain is without it; it
+-- is the first of the free records.
 pub record CutLeaf (t : List ℕ) (k : ℕ) : Type 0 where
   pub accepted : fault (cutOut t k) ≡ 0
   pub pruned : trees (cutOut t k) ≡ withoutNode k (trees t)

@@ -1,5 +1,5 @@
 -- Laws of `store`: the length is kept (`store-length`), every entry but those of the layout's records is kept (`store-kept`), and the entries of a node of a
--- layout with distinct records are its point (`store-point`). Rests on the laws of entries (`layout`, proofs/Entries).
+-- layout with distinct records are its point (`store-point`). Rests on the laws of placements (`placements`, proofs/Points).
 use mathlib.Core.Path.{_≡_, refl, ap, ap₂, _∙_}
 use mathlib.Core.Logic.{_≢_}
 use mathlib.Core.List.{List}

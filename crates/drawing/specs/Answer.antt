@@ -1,4 +1,5 @@
--- The drawer's whole answer for any bytes and placements: refusal, plan, and every placement afterwards (document 01, "The rack table", "How the contracts bind"; document 02, Paper 8).
+-- The drawer's whole answer for any bytes and placements: refusal, plan, and every placement afterwards (document 01, "The rack table", "How the contracts
+-- bind"; document 02, Paper 8).
 use mathlib.Core.Path.{_≡_}
 use mathlib.Core.Bool.{true, false}
 use mathlib.Core.List.{List, [], _∷_}

@@ -1,5 +1,7 @@
-// Placing (document 004, Steps 5 and 6, and the drawings of Step 3; document 01, steps 1 and 3 to 8): the points of a drawing, in the columns and rows of the whole plan, stored among the placements.
-// The roles and W of each spine are handed over and only read; placing chooses none. "004" and "01" below are these documents, whose steps have numbers of their own.
+// Placing (document 004, Steps 5 and 6, and the drawings of Step 3; document 01, steps 1 and 3 to 8): the points of a drawing, in the columns and rows of
+// the whole plan, stored among the placements.
+// The roles and W of each spine are handed over and only read; placing chooses none. "004" and "01" below are these documents, whose steps have numbers of
+// their own.
 use placements::set_point;
 use roles::Fork;
 use roles::fork_at;
@@ -173,7 +175,8 @@ fn step(
     at_ordinary(table, sizes, roles, widest, points, fork, w)
 }
 
-// 004, Steps 5 and 6; 01, steps 1 and 4 to 8: from the first node to the end of a spine; what is then still pending goes below all (step 8, which 004 omits). Answers the first row below the drawing.
+// 004, Steps 5 and 6; 01, steps 1 and 4 to 8: from the first node to the end of a spine; what is then still pending goes below all (step 8, which 004
+// omits). Answers the first row below the drawing.
 fn draw_spine(
     table: &[u8],
     sizes: &[u16],
@@ -246,7 +249,8 @@ fn draw_right(
     draw_spine(table, sizes, roles, widest, points, root, edge, top, true)
 }
 
-// 004, Step 3; 01, step 3: the drawing of a hung subtree, 0 for none, on the side of the walk's hand: its edge is at that hand's column, its top at the row. Answers the first row below it.
+// 004, Step 3; 01, step 3: the drawing of a hung subtree, 0 for none, on the side of the walk's hand: its edge is at that hand's column, its top at the
+// row. Answers the first row below it.
 fn draw_hung(
     table: &[u8],
     sizes: &[u16],
@@ -274,7 +278,8 @@ fn draw_hung(
     }
 }
 
-// 004, Step 5; 01, step 1: the drawing of a whole tree, on the left side, from column 0 on and the given row on, by the roles of its spines. Answers the first row below it.
+// 004, Step 5; 01, step 1: the drawing of a whole tree, on the left side, from column 0 on and the given row on, by the roles of its spines. Answers the
+// first row below it.
 pub fn draw_tree(
     table: &[u8],
     sizes: &[u16],

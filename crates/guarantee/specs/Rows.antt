@@ -15,7 +15,8 @@ use Rattle.placements.specs.Placements.{pointOf}
 abbrev pub NoSharedRows : (t p : List ℕ) → Type 0
 NoSharedRows t p = (k : ℕ) → T (member k (roots t)) → SpinesApart (pointOf (placedIn t p)) (treeAt t k)
 
--- "When I cover a branch with a ruler I want nothing of its neighbour beneath it": with U for the branch, of the tree with the root k, and b for any chained node in its rows
+-- "When I cover a branch with a ruler I want nothing of its neighbour beneath it": with U for the branch, of the tree with the root k, and b for any
+-- chained node in its rows
 abbrev pub UnderRuler : (t p : List ℕ) → Type 0
 UnderRuler t p =
     (k b : ℕ) (U : Tree) → T (member k (roots t)) → Chained t b → DrawnIn (treeAt t k) U →

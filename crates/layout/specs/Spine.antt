@@ -11,7 +11,8 @@ use Rattle.layout.specs.Layout.{mirror}
 pub data SpineNode : Type 0 where
   hangs : ℕ → Side → Tree → SpineNode
 
--- "The spine goes from the root to the child with the larger subtree, until a box without children. Of two equal subtrees it takes the left child of the tree being drawn"
+-- "The spine goes from the root to the child with the larger subtree, until a box without children. Of two equal subtrees it takes the left child of the
+-- tree being drawn"
 unfoldable pub spine : Tree → List SpineNode
 spine none = []
 spine (node k a b) = elim (leb (size b) (size a)) [ true ↦ hangs k right b ∷ spine a | false ↦ hangs k left a ∷ spine b ]

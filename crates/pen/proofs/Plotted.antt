@@ -58,6 +58,7 @@ module _ (t p : List ℕ) (pitch : ℕ) (ok : fault t ≡ 0) where
   plotted {k} {c} line = record {
     i = place;
     listed = l .1;
+    line = l .2;
     lift = line-lift p pitch t place (l .1) ∙ ap (λ (e : Ends). Lift (penAt p pitch (e .parent))) (l .2);
     draw = line-draw p pitch t place (l .1) ∙ ap (λ (e : Ends). Draw (penAt p pitch (e .child))) (l .2);
     once = λ j n e. one j n (ap (λ (x : Ends). x .child) (e ∙ sym (l .2))) (decLt j place) (decLt place j);

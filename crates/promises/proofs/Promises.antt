@@ -1,4 +1,4 @@
--- The law of each promise, in the order of specs/Promises.
+-- The law of each promise, a line each, in the order of specs/Promises.
 use Rattle.segment.proofs.FourKinds.{one-kind, some-kind}
 use Rattle.table.proofs.Accepted.{chain-ended, free-ended, tree-unfolds, nodes-chain, nodes-distinct}
 use Rattle.width.proofs.FloorLog2.{floor-bounds, floor-unique, allowed-4096, allowed-most}
@@ -7,6 +7,7 @@ use Rattle.layout.proofs.Stacked.{rooted-below}
 use Rattle.layout.proofs.OnSpine.{on-a-spine}
 use Rattle.drawing.proofs.Elsewhere.{kept-elsewhere}
 use Rattle.drawing.proofs.OffChain.{off-chain-drawn}
+use Rattle.wide.proofs.Transposed.{wide-rooted}
 use Rattle.wide.proofs.Elsewhere.{wide-kept-elsewhere, off-chain-wide}
 use Rattle.verdict.proofs.Unique.{verdict-unique}
 use Rattle.verdict.proofs.OffChain.{off-chain-verdict}
@@ -33,150 +34,56 @@ use Rattle.fields.proofs.Decimal.{decimal-one, decimal-more}
 use Rattle.text.proofs.Whole.{enough}
 use Rattle.text.proofs.OffChain.{off-chain-text}
 use Rattle.starred.proofs.Starred.{starred}
-use Rattle.promises.specs.Promises.{ChainsWhole, TreesWhole, TreesOfTheChain, DrawnBySteps, OneFloor, DigitsWhole, PlainKeepsOthers, WideKeepsOthers, NeverTaken}
-use Rattle.promises.specs.Promises.{OffChainPlain, OffChainWide, OffChainVerdict, OffChainStroke, OffChainHang, OffChainHeld, OffChainCut, OffChainText}
-use Rattle.promises.specs.Promises.{OffChainAfter, NeverSix, OneVerdict, StarredSheets, AcceptedIsGood, AtMost37, WideIsGood, LinesPlottedOnce, StrokesNumbered}
-use Rattle.promises.specs.Promises.{OneQuarter, HangsALeaf, CutsALeaf, CutsTheLast, CutRestores, CallsConserve, AcceptedFirst, RefusedFirst}
-use Rattle.promises.specs.Promises.{PlanAsFirst, HalvesHang, OneMeeting, SomeMeeting, VerdictsRecast, RootsBelow, FiveNarrowed, PlanAsBefore}
-use Rattle.promises.specs.Promises.{WidePlanAsBefore, RowsNotShared, RulerCovers, RowsFilled, EveryNodeOnASpine}
+use Rattle.promises.specs.Promises.{Promises}
 
-pub chains-whole : ChainsWhole
-chains-whole = λ t ok n. (chain-ended t ok n, free-ended t ok n)
-
-pub trees-whole : TreesWhole
-trees-whole = tree-unfolds
-
-pub trees-of-the-chain : TreesOfTheChain
-trees-of-the-chain = λ t ok. (nodes-chain t ok, nodes-distinct t ok)
-
-pub drawn-by-steps : DrawnBySteps
-drawn-by-steps = draw-law
-
-pub one-floor : OneFloor
-one-floor = λ n k some. (floor-unique some, λ e. rw e (floor-bounds n some))
-
-pub digits-whole : DigitsWhole
-digits-whole = λ n. (decimal-one n, decimal-more n)
-
-pub plain-keeps-others : PlainKeepsOthers
-plain-keeps-others = kept-elsewhere
-
-pub wide-keeps-others : WideKeepsOthers
-wide-keeps-others = wide-kept-elsewhere
-
-pub never-takes : NeverTaken
-never-takes = never-taken
-
-pub off-chain-plain : OffChainPlain
-off-chain-plain = off-chain-drawn
-
-pub off-chain-wide-plan : OffChainWide
-off-chain-wide-plan = off-chain-wide
-
-pub off-chain-check : OffChainVerdict
-off-chain-check = off-chain-verdict
-
-pub off-chain-pen : OffChainStroke
-off-chain-pen = off-chain-stroke
-
-pub off-chain-hanging : OffChainHang
-off-chain-hanging = λ t u h. off-chain-hang h
-
-pub off-chain-hanging-held : OffChainHeld
-off-chain-hanging-held = λ t u h. off-chain-held h
-
-pub off-chain-cutting : OffChainCut
-off-chain-cutting = λ t u h. off-chain-cut h
-
-pub off-chain-program : OffChainText
-off-chain-program = off-chain-text
-
-pub off-chain-left : OffChainAfter
-off-chain-left = λ t u h. off-chain-after h
-
-pub never-six : NeverSix
-never-six = enough
-
-pub one-verdict : OneVerdict
-one-verdict = λ t p v w. verdict-unique t p
-
-pub starred-sheets : StarredSheets
-starred-sheets = starred
-
-pub accepted-is-good : AcceptedIsGood
-accepted-is-good = kept
-
-pub at-most-37 : AtMost37
-at-most-37 = (allowed-4096, allowed-most)
-
-pub wide-is-good : WideIsGood
-wide-is-good = wide-kept
-
-pub lines-plotted-once : LinesPlottedOnce
-lines-plotted-once = λ t p pitch k c s ok. plotted t p pitch ok
-
-pub strokes-numbered : StrokesNumbered
-strokes-numbered = strokes-number
-
-pub one-quarter : OneQuarter
-one-quarter = only
-
-pub hangs-a-leaf : HangsALeaf
-hangs-a-leaf = hang-leaf
-
-pub cuts-a-leaf : CutsALeaf
-cuts-a-leaf = cut-leaf
-
-pub cuts-the-last : CutsTheLast
-cuts-the-last = cut-only
-
-pub cut-restores : CutRestores
-cut-restores = λ t parent side tag bytes small h. (cut-answers t parent side tag h, restored t parent side tag bytes small h)
-
-pub calls-conserve : CallsConserve
-calls-conserve = kept-all
-
-pub accepted-at-first : AcceptedFirst
-accepted-at-first = accepted-first
-
-pub refused-at-first : RefusedFirst
-refused-at-first = refusal-first
-
-pub plan-as-first : PlanAsFirst
-plan-as-first = drawn-first
-
-pub halves-hang : HalvesHang
-halves-hang = second-half
-
-pub one-meeting : OneMeeting
-one-meeting = one-kind
-
-pub some-meeting : SomeMeeting
-some-meeting = some-kind
-
-pub verdicts-recast : VerdictsRecast
-verdicts-recast = recast
-
-pub roots-below : RootsBelow
-roots-below = rooted-below
-
-pub five-narrowed : FiveNarrowed
-five-narrowed = narrowed
-
-pub plan-as-before : PlanAsBefore
-plan-as-before = drawn-before
-
-pub wide-plan-as-before : WidePlanAsBefore
-wide-plan-as-before = wide-before
-
-pub rows-not-shared : RowsNotShared
-rows-not-shared = no-shared-rows
-
-pub ruler-covers : RulerCovers
-ruler-covers = under-ruler
-
-pub rows-filled : RowsFilled
-rows-filled = no-gaps
-
-pub every-node-on-a-spine : EveryNodeOnASpine
-every-node-on-a-spine = on-a-spine
+pub promises : Promises
+promises = record {
+  chains-whole = λ t ok n. (chain-ended t ok n, free-ended t ok n);
+  trees-whole = tree-unfolds;
+  trees-of-the-chain = λ t ok. (nodes-chain t ok, nodes-distinct t ok);
+  drawn-by-steps = draw-law;
+  one-floor = λ n k some. (floor-unique some, λ e. rw e (floor-bounds n some));
+  digits-whole = λ n. (decimal-one n, decimal-more n);
+  plain-keeps-others = kept-elsewhere;
+  wide-keeps-others = wide-kept-elsewhere;
+  never-taken = never-taken;
+  off-chain-plain = off-chain-drawn;
+  off-chain-wide = off-chain-wide;
+  off-chain-verdict = off-chain-verdict;
+  off-chain-stroke = off-chain-stroke;
+  off-chain-hang = λ t u h. off-chain-hang h;
+  off-chain-held = λ t u h. off-chain-held h;
+  off-chain-cut = λ t u h. off-chain-cut h;
+  off-chain-text = off-chain-text;
+  off-chain-after = λ t u h. off-chain-after h;
+  never-six = enough;
+  one-verdict = λ t p v w. verdict-unique t p;
+  starred-sheets = starred;
+  accepted-is-good = kept;
+  at-most37 = (allowed-4096, allowed-most);
+  wide-is-good = wide-kept;
+  lines-plotted-once = λ t p pitch k c s ok. plotted t p pitch ok;
+  strokes-numbered = strokes-number;
+  one-quarter = only;
+  hangs-a-leaf = hang-leaf;
+  cuts-a-leaf = cut-leaf;
+  cuts-the-last = cut-only;
+  cut-restores = λ t parent side tag bytes small h. (cut-answers t parent side tag h, restored t parent side tag bytes small h);
+  calls-conserve = kept-all;
+  accepted-first = accepted-first;
+  refused-first = refusal-first;
+  plan-as-first = drawn-first;
+  halves-hang = second-half;
+  one-meeting = one-kind;
+  some-meeting = some-kind;
+  verdicts-recast = recast;
+  roots-below = rooted-below;
+  wide-roots-beside = wide-rooted;
+  five-narrowed = narrowed;
+  plan-as-before = drawn-before;
+  wide-plan-as-before = wide-before;
+  rows-not-shared = no-shared-rows;
+  ruler-covers = under-ruler;
+  rows-filled = no-gaps;
+  every-node-on-a-spine = on-a-spine;
+}

@@ -1,5 +1,5 @@
--- The page of promises: what is proved beyond the contracts of functions, each promise with its quantifiers and its hypothesis, in the order of the demands (docs/GROUNDS.md) and
--- of the papers. t and u are any bytes, p any placements. The law of each is named in proofs/Promises.
+-- The page of promises: what is proved beyond the contracts of functions, each promise with its quantifiers and its hypothesis, in the order of the demands
+-- (docs/GROUNDS.md) and of the papers. t and u are any bytes, p any placements. All of them are kept: `Promises`, at the end; proofs/Promises names the laws.
 use mathlib.Core.Path.{_≡_}
 use mathlib.Core.Logic.{_↔_}
 use mathlib.Core.Bool.{false}
@@ -25,7 +25,7 @@ use Rattle.layout.specs.Layout.{RootAt, shift}
 use Rattle.layout.specs.Drawing.{steps, draw}
 use Rattle.layout.specs.Rectangle.{OnSpine}
 use Rattle.drawing.specs.Answer.{drawnOf, placedIn, KeptElsewhere}
-use Rattle.wide.specs.Wide.{wideOf, widePlacedIn}
+use Rattle.wide.specs.Wide.{transposed, wideOf, widePlacedIn}
 use Rattle.verdict.specs.Verdict.{Verdict}
 use Rattle.guarantee.specs.Demand.{Kept}
 use Rattle.guarantee.specs.Corollary1.{WideKept}
@@ -133,7 +133,7 @@ StarredSheets = All Right cases
 abbrev pub AcceptedIsGood : Type 0
 AcceptedIsGood = (t p : List ℕ) → drawnOf t p .refusal ≡ 0 → Kept t p
 
--- "At 4,096 it is 37", and no number of nodes allows more: no drawing is wider.
+-- "At 4,096 it is 37", and no number of nodes allows more; so, with what was just said, no drawing is wider.
 abbrev pub AtMost37 : Type 0
 AtMost37 = (allowedWidth 4096 ≡ 37) × ((n : ℕ) → allowedWidth n ≤ 37)
 
@@ -158,6 +158,8 @@ StrokesNumbered =
 abbrev pub OneQuarter : Type 0
 OneQuarter = (x : Float) (n : ℕ) → n < 2 ^ 32 → T (fits binary64 x) → HasValue x false n 4 → x ≡ quarterOf n .float
 
+-- ---- Papers 3 and 4, roles first and level lines: all in contracts, of `choose_roles` (roles/src/choosing.rt) and of the check
+
 -- ---- Paper 5: hanging and cutting
 
 -- "the first free record becomes that child, follows its parent in the chain"
@@ -181,8 +183,8 @@ CutRestores =
 abbrev pub CallsConserve : Type 0
 CallsConserve = (cs : List Call) (t : List ℕ) → fault t ≡ 0 → Conserved t (afterAll cs t)
 
--- As document 01 has the refusals, before this request: a table that was accepted is accepted (`Narrowed`, Paper 8, goes on from there), and one whose head's right is zero is refused
--- as it was.
+-- As document 01 has the refusals, before this request: a table that was accepted is accepted (`Narrowed`, Paper 8, goes on from there), and one whose head's
+-- right is zero is refused as it was.
 abbrev pub AcceptedFirst : Type 0
 AcceptedFirst = (t : List ℕ) (places : ℕ) → refusalFirst t places ≡ 0 → refusalBefore t places ≡ 0
 
@@ -216,6 +218,10 @@ VerdictsRecast = (t p : List ℕ) → Recast t p
 abbrev pub RootsBelow : Type 0
 RootsBelow = (r : ℕ) (a : Tree) → RootAt (at 0 r) (shift 0 r (draw a))
 
+-- And in the wide plan, columns and rows exchanged: in row 0, in the column beside the tree before.
+abbrev pub WideRootsBeside : Type 0
+WideRootsBeside = (r : ℕ) (a : Tree) → RootAt (at r 0) (transposed (shift 0 r (draw a)))
+
 -- "5 is left for .."
 abbrev pub FiveNarrowed : Type 0
 FiveNarrowed = (t : List ℕ) → Narrowed t
@@ -227,17 +233,72 @@ PlanAsBefore = (t p : List ℕ) → refusalBefore t (length p) ≡ 0 → AsBefor
 abbrev pub WidePlanAsBefore : Type 0
 WidePlanAsBefore = (t p : List ℕ) → refusalBefore t (length p) ≡ 0 → WideAsBefore t p
 
--- ---- Paper 9: "no gaps, no shared rows", of every plan that the drawer accepts, in the placements as it left them
+-- ---- Paper 9, of every plan that the drawer accepts, in the placements as it left them
 
+-- "the drawings of its hung subtrees occupy rows that no other drawing of that spine occupies, and spine boxes lie outside their rectangles"
 abbrev pub RowsNotShared : Type 0
 RowsNotShared = (t p : List ℕ) → drawnOf t p .refusal ≡ 0 → NoSharedRows t p
 
+-- "When I cover a branch with a ruler I want nothing of its neighbour beneath it"
 abbrev pub RulerCovers : Type 0
 RulerCovers = (t p : List ℕ) → drawnOf t p .refusal ≡ 0 → UnderRuler t p
 
+-- "Every row from 0 to the height less 1 holds a box."
 abbrev pub RowsFilled : Type 0
 RowsFilled = (t p : List ℕ) → drawnOf t p .refusal ≡ 0 → NoGaps t p
 
 -- "For every spine": each node of a tree is on one.
 abbrev pub EveryNodeOnASpine : Type 0
 EveryNodeOnASpine = (a : Tree) (k : ℕ) → T (member k (nodes a)) → OnSpine a k
+
+-- ---- all of them
+
+pub record Promises : Type 0 where
+  pub chains-whole : ChainsWhole
+  pub trees-whole : TreesWhole
+  pub trees-of-the-chain : TreesOfTheChain
+  pub drawn-by-steps : DrawnBySteps
+  pub one-floor : OneFloor
+  pub digits-whole : DigitsWhole
+  pub plain-keeps-others : PlainKeepsOthers
+  pub wide-keeps-others : WideKeepsOthers
+  pub never-taken : NeverTaken
+  pub off-chain-plain : OffChainPlain
+  pub off-chain-wide : OffChainWide
+  pub off-chain-verdict : OffChainVerdict
+  pub off-chain-stroke : OffChainStroke
+  pub off-chain-hang : OffChainHang
+  pub off-chain-held : OffChainHeld
+  pub off-chain-cut : OffChainCut
+  pub off-chain-text : OffChainText
+  pub off-chain-after : OffChainAfter
+  pub never-six : NeverSix
+  pub one-verdict : OneVerdict
+  pub starred-sheets : StarredSheets
+  pub accepted-is-good : AcceptedIsGood
+  pub at-most37 : AtMost37
+  pub wide-is-good : WideIsGood
+  pub lines-plotted-once : LinesPlottedOnce
+  pub strokes-numbered : StrokesNumbered
+  pub one-quarter : OneQuarter
+  pub hangs-a-leaf : HangsALeaf
+  pub cuts-a-leaf : CutsALeaf
+  pub cuts-the-last : CutsTheLast
+  pub cut-restores : CutRestores
+  pub calls-conserve : CallsConserve
+  pub accepted-first : AcceptedFirst
+  pub refused-first : RefusedFirst
+  pub plan-as-first : PlanAsFirst
+  pub halves-hang : HalvesHang
+  pub one-meeting : OneMeeting
+  pub some-meeting : SomeMeeting
+  pub verdicts-recast : VerdictsRecast
+  pub roots-below : RootsBelow
+  pub wide-roots-beside : WideRootsBeside
+  pub five-narrowed : FiveNarrowed
+  pub plan-as-before : PlanAsBefore
+  pub wide-plan-as-before : WidePlanAsBefore
+  pub rows-not-shared : RowsNotShared
+  pub ruler-covers : RulerCovers
+  pub rows-filled : RowsFilled
+  pub every-node-on-a-spine : EveryNodeOnASpine

@@ -151,7 +151,8 @@ pub fn read(
 }
 
 // Why a table with this many placements is refused; 0 if it is not.
-// Promised beyond this contract (promises/specs/Promises): `FiveNarrowed`, `AcceptedFirst`, `RefusedFirst`.
+// Promised beyond this contract (promises/specs/Promises): `ChainsWhole`, `TreesWhole`, `TreesOfTheChain`, `AcceptedFirst`, `RefusedFirst`,
+// `FiveNarrowed`.
 pub fn refusal_of(table: &[u8], places: usize) -> u16
     ensures { λ r. ⌜ r ≡ refusal (now (table .entry)) places ⌝ }
 {

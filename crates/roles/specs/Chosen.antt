@@ -20,7 +20,8 @@ codeOf right knee = 3
 codeOf right ordinary = 4
 codeOf right switch = 5
 
--- "the role of every box of a spine": the list R, with the roles of a spine kept at their nodes' records. The first node is on the hand a; a switch goes over to the other.
+-- "the role of every box of a spine": the list R, with the roles of a spine kept at their nodes' records. The first node is on the hand a; a switch goes
+-- over to the other.
 unfoldable pub withRoles : Side → List Assigned → List ℕ → List ℕ
 withRoles a [] R = R
 withRoles a (assigned o (hangs k s S) ∷ rs) R = withRoles (handAfter o a) rs (set R k (codeOf a o))

@@ -65,7 +65,8 @@ pub fn fork_at(table: &[u8], sizes: &[u16], at: usize, mirrored: bool) -> Fork
     }
 }
 
-// 004, Steps 1 to 4; 01, steps 1 to 3 and 7: the roles and W of every spine, which placing is handed, for the drawing of the tree from `root` on. Answers the drawing's width.
+// 004, Steps 1 to 4; 01, steps 1 to 3 and 7: the roles and W of every spine, which placing is handed, for the drawing of the tree from `root` on. Answers
+// the drawing's width.
 pub fn prepare(
     table: &[u8],
     sizes: &[u16],

@@ -1,4 +1,5 @@
--- How two lines meet, by the points of their ends (document 02, Paper 7, "Comparing two lines"): each kind by its meaning in whole numbers. Definitions only; for all natural coordinates.
+-- How two lines meet, by the points of their ends (document 02, Paper 7, "Comparing two lines"): each kind by its meaning in whole numbers. Definitions
+-- only; for all natural coordinates.
 use mathlib.Core.Path.{_≡_}
 use Prim.Native.Nat.{ℕ, _<_}
 use lib.IntN.{pos, _-ℤ_, _*ℤ_}
@@ -18,7 +19,8 @@ pub record Inside (P Q : Point) (q x y : ℕ) : Type 0 where
   pub after-start : 0 < on .s
   pub before-end : on .s < q
 
--- Parallel, which for lines that share a point is "running along each other": a·d = b·c, for Q at column difference a and row difference b from P, and S at c and d
+-- Parallel, which for lines that share a point is "running along each other": a·d = b·c, for Q at column difference a and row difference b from P, and S at
+-- c and d
 -- from R. A line of one point is parallel to every line.
 abbrev pub Parallel : Point → Point → Point → Point → Type 0
 Parallel P Q R S = (pos (Q .column) -ℤ pos (P .column)) *ℤ (pos (S .row) -ℤ pos (R .row)) ≡ (pos (Q .row) -ℤ pos (P .row)) *ℤ (pos (S .column) -ℤ pos (R .column))

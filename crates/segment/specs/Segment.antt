@@ -1,4 +1,5 @@
--- Points of a segment, shared points and the cross product, as document 01 puts them ("What the sheet check says"). Definitions only; for all natural coordinates.
+-- Points of a segment, shared points and the cross product, as document 01 puts them ("What the sheet check says"). Definitions only; for all natural
+-- coordinates.
 use mathlib.Core.Path.{_≡_}
 use mathlib.Core.Logic.{_⊎_}
 use Prim.Native.Nat.{ℕ, _+_, _*_, _-_, _≤_}

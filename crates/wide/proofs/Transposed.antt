@@ -1,5 +1,7 @@
--- Transposed layouts, one or several: the extents are exchanged (`width-transposed`, `height-transposed`, `width-turned`, `height-turned`), the records are the same (`times-turned`), and the
--- placements of an accepted table's drawings, exchanged, are those of the drawings transposed (`turned-stored`). Rests on the laws of `store` and `storeAll`, of exchanged placements and of an
+-- Transposed layouts, one or several: the extents are exchanged (`width-transposed`, `height-transposed`, `width-turned`, `height-turned`), the records are
+-- the same (`times-turned`), and the
+-- placements of an accepted table's drawings, exchanged, are those of the drawings transposed (`turned-stored`); the root of each is in row 0
+-- (`wide-rooted`). Rests on the laws of `store` and `storeAll`, of exchanged placements and of an
 -- accepted table.
 use mathlib.Core.Path.{_≡_, refl, sym, ap, ap₂, _∙_}
 use mathlib.Core.Logic.{inl, inr}
@@ -8,6 +10,8 @@ use mathlib.Core.List.{List, [], _∷_, map}
 use Prim.Native.Nat.{ℕ, _+_, _*_, _≤_, _<_}
 use native.Mathlib.Omega.{arith}
 use lib.ListN.{length}
+use Rattle.segment.specs.declared.Point.{Point}
+use Rattle.segment.specs.Segment.{at}
 use Rattle.segment.specs.inner.Test.{transpose}
 use Rattle.table.specs.Lists.{member, count}
 use Rattle.table.specs.Table.{records, chain}
@@ -16,9 +20,11 @@ use Rattle.table.specs.Trees.{trees, nodesOf}
 use Rattle.table.specs.Refusal.{fault}
 use Rattle.table.proofs.Lists.{T-true, T-false, Alike, alike, member-count, member-none}
 use Rattle.table.proofs.Accepted.{chain-within, chain-distinct, nodes-chain}
-use Rattle.layout.specs.Layout.{Layout, blank, placed, width, height}
+use Rattle.layout.specs.Layout.{Layout, blank, placed, width, height, shift, RootAt}
+use Rattle.layout.specs.Drawing.{draw}
 use Rattle.layout.specs.Trees.{drawTrees, widthOf, heightOf}
 use Rattle.layout.proofs.Rows.{shape}
+use Rattle.layout.proofs.Stacked.{rooted-below}
 use Rattle.drawing.specs.Answer.{store, storeAll}
 use Rattle.placements.specs.Placements.{pointOf}
 use Rattle.placements.proofs.Points.{pair, pair-length, pair-point, pair-other, same-points}
@@ -109,3 +115,12 @@ module _ (t p : List ℕ) (ok : fault t ≡ 0) (long : 2 * records t ≤ length 
   pub turned-stored : exchangedPlacements t (storeAll layouts p) ≡ storeAll (map transposed layouts) p
   unfolding exchangedPlacements
   turned-stored = same-points _ _ (points-long (chain t) _ ∙ (stored-length layouts p ∙ sym (stored-length (map transposed layouts) p))) (λ k. turned-at k (member k (chain t)) refl)
+
+-- The root of what is drawn from row r on is in row 0 and column r.
+root-turned : (Q : Point) (L : Layout) → RootAt Q L → RootAt (transpose Q) (transposed L)
+unfolding transposed
+root-turned Q blank e = tt
+root-turned Q (placed k P a b) e = ap transpose e
+
+pub wide-rooted : (r : ℕ) (a : Tree) → RootAt (at r 0) (transposed (shift 0 r (draw a)))
+wide-rooted r a = root-turned (at 0 r) (shift 0 r (draw a)) (rooted-below r a)

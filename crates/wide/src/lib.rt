@@ -64,7 +64,8 @@ fn wide_plan(
 }
 
 // Draws the wide plan of a table: its refusal, or the plan and the placements of its nodes. All placements are kept on a refusal.
-// Promised beyond this contract (promises/specs/Promises): `WideIsGood`, `WideKeepsOthers`, `OffChainWide`.
+// Promised beyond this contract (promises/specs/Promises): `WideIsGood`, `AtMost37`, `WideRootsBeside`, `WideKeepsOthers`, `OffChainWide`,
+// `WidePlanAsBefore`.
 pub fn draw_wide(table: &[u8], placements: &mut [u16]) -> Wide
     ensures { λ r. ⌜ (said r ≡ wideOf (now (table .entry)) (now (placements .entry)))
         × (now (placements .exit) ≡ widePlacedIn (now (table .entry)) (now (placements .entry))) ⌝ }

@@ -71,7 +71,8 @@ lay a e f switch H r p (hangs k s S ∷ ls) =
     let n : Rest = lay (opposite a) f e (roleNext (opposite a) switch ls) (r + heightOn a S + p) (r + 1) 0 ls in
     record { drawn = join k (at (inwards a e 1) r) s (hungOn a (inwards a e 1) (r + 1) S) (n .drawn); under = r + heightOn a S + 1 }
 
--- The roles from a spine node of the hand a and the role o on. On the side s a spine begins with a knee of that side; W is the greatest width of what hangs from it.
+-- The roles from a spine node of the hand a and the role o on. On the side s a spine begins with a knee of that side; W is the greatest width of what hangs
+-- from it.
 unfoldable pub rolesFrom : Side → Role → List SpineNode → List Assigned
 rolesFrom a o [] = []
 rolesFrom a o (l ∷ ls) = assigned o (seen a l) ∷ rolesAfter a o ls
@@ -114,7 +115,8 @@ abbrev pub GoesOn : List SpineNode → Type 0
 GoesOn [] = ⊥
 GoesOn (l ∷ ls) = Unit {0}
 
--- So are those of each spine node from here on, and of what hangs from it. At a switch the whole frame is, the other hand's edge f is W + 2 columns inwards, and a node of that hand follows.
+-- So are those of each spine node from here on, and of what hangs from it. At a switch the whole frame is, the other hand's edge f is W + 2 columns
+-- inwards, and a node of that hand follows.
 pub data Rooms (B W : ℕ) : Side → (e f : ℕ) → Role → List SpineNode → Type 0 where
   no-rooms : {a : Side} {e f : ℕ} {o : Role} → Rooms B W a e f o []
   knee-room : {a s : Side} {e f k : ℕ} {S : Tree} {ls : List SpineNode} → Inside B a e (1 + widthOn a S) → Rooms B W a e f (roleNext a knee ls) ls → Rooms B W a e f knee (hangs k s S ∷ ls)

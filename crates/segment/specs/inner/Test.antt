@@ -1,4 +1,5 @@
--- Tests that the code makes, proved to agree with the meaning in Segment.antt and Meeting.antt (proofs/SharedPoint.antt, proofs/Crossing.antt), and points transposed and numbered.
+-- Tests that the code makes, proved to agree with the meaning in Segment.antt and Meeting.antt (proofs/SharedPoint.antt, proofs/Crossing.antt), and points
+-- transposed and numbered.
 use mathlib.Core.Bool.{Bool, _&&_, _||_}
 use Prim.Native.Nat.{ℕ, _+_, _*_, min, max}
 use lib.Dec.{leb}

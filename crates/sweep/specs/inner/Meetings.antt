@@ -33,7 +33,8 @@ Met m x y = MeetSo m (startOf x) (endOf x) (startOf y) (endOf y)
 pub record NoWorse (m : Meeting) (x y : ℕ) : Type 0 where
   pub no-worse : (k : Meeting) → Met k x y → grade k ≤ grade m
 
--- m is the worst of the meeting w and of those of line i with the lines from j on that stand before it: it is w, or one of them meets line i so, and neither w nor any of them is worse.
+-- m is the worst of the meeting w and of those of line i with the lines from j on that stand before it: it is w, or one of them meets line i so, and
+-- neither w nor any of them is worse.
 pub record WorstFrom (j i : ℕ) (l : List ℕ) (w m : Meeting) : Type 0 where
   pub found : (m ≡ w) ⊎ Below i (λ a. Met m (getD l a 0) (getD l i 0))
   pub no-better : grade w ≤ grade m
