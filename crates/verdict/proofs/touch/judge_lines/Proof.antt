@@ -64,11 +64,11 @@ same-length-7 c = search needs
 returns-3 : tie.Need-returns-3
 returns-3 c =
     let met = c .before .before .before .before .before .before .before in
-    let level = met .before .before .before .before in
-    let apart = level .before .before .before in
-    let r = sorted apart .sort in
-    first-moved (r .ensures .0) (r .kept .0) (worst-first (met .worst-meeting .result) (fails (apart .if1 .left) (apart .before .same-end .ensures))
-    (fails (level .if2 .left) (level .before .rises .ensures)) (met .worst-meeting .ensures) (c .worst-verdict .ensures))
+    let downward = met .before .before .before .before in
+    let ends-differ = downward .before .before .before in
+    let r = sorted ends-differ .sort in
+    first-moved (r .ensures .0) (r .kept .0) (worst-first (met .worst-meeting .result) (fails (ends-differ .if1 .left) (ends-differ .before .same-end .ensures))
+    (fails (downward .if2 .left) (downward .before .rises .ensures)) (met .worst-meeting .ensures) (c .worst-verdict .ensures))
 
 pub judge-lines-spec : {M : Type 1} → statement M
 judge-lines-spec =
