@@ -12,7 +12,6 @@ use Rattle.before.specs.Plans.{wideBefore, WideAsBefore}
 use Rattle.before.proofs.Tables.{accepted-before}
 use Rattle.table.proofs.Saying.{answered-none}
 use Rattle.layout.specs.Layout.{Layout, mirror}
-use Rattle.layout.specs.Drawing.{draw}
 use Rattle.layout.specs.Trees.{widthOf, heightOf}
 use Rattle.layout.proofs.Stacked.{one-tree, widthOf-one, heightOf-one}
 use Rattle.drawing.specs.Answer.{storeAll}

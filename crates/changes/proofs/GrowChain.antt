@@ -10,7 +10,7 @@ use lib.ListN.{length}
 use Rattle.table.specs.Lists.{member}
 use Rattle.table.specs.Table.{word, nextOf, chain, Chained, firstFree, free, Free, Empty}
 use Rattle.table.specs.Refusal.{fault}
-use Rattle.table.proofs.Lists.{distinct-cons, member-cons, same}
+use Rattle.table.proofs.Lists.{distinct-cons, member-cons}
 use Rattle.table.proofs.Accepted.{chain-within, chain-length, free-within, free-distinct, free-length, free-zero}
 use Rattle.table.proofs.Trail.{Path, path-trail, path-same}
 use Rattle.table.proofs.Nexts.{chain-path, head-distinct, free-head}

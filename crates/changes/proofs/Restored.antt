@@ -1,4 +1,4 @@
--- "Cutting a box just hung restores every byte": `restored`. Rests on Accepted and Bytes (`table`), Inserted, GrowChain, GrowSound, PruneChain, Hanging and Undone.
+-- "Cutting a box just hung restores every byte": `restored`. Rests on Bytes (`table`), Inserted, GrowChain, GrowSound, PruneChain, Hanging and Undone.
 use mathlib.Core.Path.{_≡_, ap, _∙_}
 use mathlib.Core.Logic.{⊎-elim, ⊎-map}
 use mathlib.Core.List.{List}

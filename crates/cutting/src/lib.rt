@@ -1,9 +1,9 @@
 // Cutting a leaf off a tree of a table.
 pub mod find;
 
-use crate::find::contains;
 use crate::find::namer_of;
 use records::examine;
+use records::find::contains;
 use records::words::index;
 use records::words::left;
 use records::words::next;

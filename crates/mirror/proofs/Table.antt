@@ -9,7 +9,7 @@ use native.Mathlib.Omega.{arith}
 use lib.Dec.{T}
 use lib.ListN.{length}
 use Rattle.table.specs.Lists.{member, count}
-use Rattle.table.specs.Table.{Side, left, right, records, word, linkOf, nextOf, leftOf, rightOf, tagOf, rootOf, chain, Chained, firstFree, free}
+use Rattle.table.specs.Table.{Side, left, right, records, word, linkOf, nextOf, leftOf, rightOf, rootOf, chain, Chained, firstFree, free}
 use Rattle.table.specs.Tree.{Tree, node, nodes, descend, treeAt}
 use Rattle.table.specs.Trees.{links, named, roots, trees, nodesOf}
 use Rattle.table.specs.Refusal.{badLength, badHead, beyond, broken, badChain, occupied, badFree, stray, badLinks, badTree, shortPlacements, fault, refusal}

@@ -1,5 +1,7 @@
 // Reading a table of records: the refusals, the chain, the nodes breadth first from the roots on, and the sizes of the subtrees. Passes on what reads
 // and writes the words of a record.
+pub mod find;
+
 pub use access::words;
 use access::words::next;
 use access::words::tag;

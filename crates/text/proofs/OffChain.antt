@@ -1,8 +1,7 @@
 -- Of records on neither chain "left, right and tag change no answer": of the text, `off-chain-text`. Rests on that law of tables and of the drawer.
 use mathlib.Core.Path.{_≡_, refl, ap}
-use mathlib.Core.Logic.{inl, inr}
 use mathlib.Core.Bool.{true, false}
-use mathlib.Core.List.{List, [], _∷_, _++_}
+use mathlib.Core.List.{List, _++_}
 use Prim.Native.Nat.{ℕ}
 use lib.Dec.{T, eqb}
 use Rattle.table.specs.Lists.{member}

@@ -1,11 +1,11 @@
 -- Cause 5 from the tests of the code. Rests on Lists, Chain and Causes.
 use mathlib.Core.Path.{_≡_, refl, sym, ap, _∙_}
-use mathlib.Core.Bool.{Bool, true, false, not, cond, _||_, or-assoc, or-true, and-false, false≢true}
+use mathlib.Core.Bool.{Bool, true, false, not, _||_, or-assoc, or-true, and-false, false≢true}
 use mathlib.Core.List.{List, []}
 use Prim.Native.Nat.{ℕ}
 use native.Mathlib.Omega.{arith}
 use lib.Dec.{eqb}
-use lib.ListN.{length, getD, set, length-set}
+use lib.ListN.{length, set, length-set}
 use lib.Seq.{getD-set-same}
 use borrow.Author.Tests.{eq-eqb, ne-eqb, eqb-true, eqb-false, not-false}
 use Rattle.table.specs.Lists.{member}

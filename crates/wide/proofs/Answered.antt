@@ -1,4 +1,4 @@
--- The answer of the call: refused, of the empty tree, and of a plan. Rests on Mirrored and on the laws of what a call says.
+-- The answer of the call: refused, of the empty tree, and of a plan. Rests on Saying (`table`), what a call says, and Whole (`drawing`), of no trees.
 use mathlib.Core.Path.{_≡_, sym, ap, _∙_}
 use mathlib.Core.Logic.{_≢_}
 use mathlib.Core.List.{List, [], _∷_}

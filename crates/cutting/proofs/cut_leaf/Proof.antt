@@ -1,6 +1,6 @@
 -- `cut_leaf` writes what cutting writes: where each word is written it is known that it lies in the table and fits. Rests on Answering.
 use mathlib.Core.Path.{_≡_, _∙_}
-use Prim.Native.Nat.{ℕ, _≤_, _<_}
+use Prim.Native.Nat.{_≤_, _<_}
 use native.Mathlib.Omega.{arith}
 use lib.ListN.{length}
 use Rattle.table.specs.Table.{records}

@@ -12,9 +12,9 @@ use Rattle.table.specs.Table.{leftOf, rightOf, rootOf, chain as chainOf}
 use Rattle.table.proofs.Lists.{T-true}
 use Rattle.table.proofs.Accepted.{records-bounds}
 use Rattle.records.proofs.Nodes.{chained-below}
+use Rattle.records.proofs.Finding.{on-chain}
 use Rattle.cutting.specs.Cutting.{stillRoot, noLeaf}
 use Rattle.cutting.proofs.Places.{no-root}
-use Rattle.cutting.proofs.Finding.{on-chain}
 use borrow.Author.Needs.{needs}
 use Rattle.cutting.proofs.no_leaf.Statement.{statement}
 use Rattle.cutting.proofs.no_leaf.Tie as tie

@@ -14,6 +14,16 @@ Inv-loop table sizes order roles₀ widest₀ placements₀ nodes width₀ top�
 abbrev μ-loop : tie.MeasureT-loop
 μ-loop table sizes order roles₀ widest₀ placements₀ nodes width₀ top₀ unplaced₀ i₀ roles widest placements width top unplaced i = unplaced
 
+-- The places on the way back: from where the tree is drawn to where its roles are told, and to the loop's test; from the loop to the entry.
+abbrev told : tie.After-draw-tree Inv-loop μ-loop → tie.After-prepare Inv-loop μ-loop
+told c = c .before .before .before .before .before .before .before .before .before
+
+abbrev tested : tie.After-draw-tree Inv-loop μ-loop → tie.In-loop Inv-loop μ-loop
+tested c = told c .before .before .before .before
+
+abbrev entry : tie.At-loop Inv-loop μ-loop → tie.Start Inv-loop μ-loop
+entry c = c .before .before .before .before .before .before .before
+
 loop-holds : tie.Need-loop-holds Inv-loop μ-loop
 loop-holds c =
     let s = c .before .before .before .before .before .before in
@@ -27,7 +37,7 @@ mul-root c =
 shared-slice-read-root : tie.Need-shared-slice-read-root Inv-loop μ-loop
 shared-slice-read-root c =
     let l = c .before .before in
-    let s = l .before .before .before .before .before .before .before in
+    let s = entry l in
     stack-place _ (s .pre .0) (s .pre .1 .0) (l .loop .inv .1 .1) (omega (arith, c .before .loop-test .taken)) _ (s .pre .1 .1 .1 .0)
 
 cast-root : tie.Need-cast-root Inv-loop μ-loop
@@ -37,7 +47,7 @@ prepare-requires : tie.Need-prepare-requires Inv-loop μ-loop
 prepare-requires c κs =
     let test = c .before .before .before in
     let l = test .before in
-    let s = l .before .before .before .before .before .before .before in
+    let s = entry l in
     let chained = stack-chained _ (s .pre .0) (s .pre .1 .0) (l .loop .inv .1 .1) (omega (arith, test .loop-test .taken)) _ (s .pre .1 .1 .1 .0) in
     (s .pre .0, (chained, (s .pre .1 .1 .0, (l .loop .inv .0, l .loop .inv .1 .0))))
 
@@ -49,7 +59,7 @@ draw-tree-requires c κs =
     let measured = c .before .before .before .before .before .before .before .before in
     let test = measured .before .before .before .before in
     let l = test .before in
-    let s = l .before .before .before .before .before .before .before in (
+    let s = entry l in (
       record {
         sound = s .pre .0;
         sized = s .pre .1 .1 .0;
@@ -62,53 +72,53 @@ draw-tree-requires c κs =
 
 mul-unplaced : tie.Need-mul-unplaced Inv-loop μ-loop
 mul-unplaced c =
-    let test = c .before .before .before .before .before .before .before .before .before .before .before .before .before .before .before in
+    let test = tested (c .before .before) in
     let l = test .before in
-    let s = l .before .before .before .before .before .before .before in
+    let s = entry l in
     omega (arith, stack-record _ (s .pre .0) (s .pre .1 .0) (l .loop .inv .1 .1) (omega (arith, test .loop-test .taken)) _ (s .pre .1 .1 .1 .0))
 
 shared-slice-read-unplaced : tie.Need-shared-slice-read-unplaced Inv-loop μ-loop
 shared-slice-read-unplaced c =
-    let test = c .before .before .before .before .before .before .before .before .before .before .before .before .before .before .before .before in
+    let test = tested (c .before .before .before) in
     let l = test .before in
-    let s = l .before .before .before .before .before .before .before in
+    let s = entry l in
     omega (arith, stack-record _ (s .pre .0) (s .pre .1 .0) (l .loop .inv .1 .1) (omega (arith, test .loop-test .taken)) _ (s .pre .1 .1 .1 .0), s .pre .1 .1 .0 .long)
 
 cast-unplaced : tie.Need-cast-unplaced Inv-loop μ-loop
 cast-unplaced c =
-    let test = c .before .before .before .before .before .before .before .before .before .before .before .before .before .before .before .before in
+    let test = tested (c .before .before .before) in
     let l = test .before in
-    omega (arith, c .shared-slice-known5 .given (getD (l .before .before .before .before .before .before .before .args .order .now) (l .loop .i) 0))
+    omega (arith, c .shared-slice-known5 .given (getD (entry l .args .order .now) (l .loop .i) 0))
 
 sub-unplaced : tie.Need-sub-unplaced Inv-loop μ-loop
 sub-unplaced c =
-    let test = c .before .before .before .before .before .before .before .before .before .before .before .before .before .before .before .before in
+    let test = tested (c .before .before .before) in
     let l = test .before in
-    let s = l .before .before .before .before .before .before .before in
+    let s = entry l in
     stack-taken _ (s .pre .0) (s .pre .1 .0) (l .loop .inv .1 .1) (omega (arith, test .loop-test .taken)) _ (s .pre .1 .1 .1 .0) _ (s .pre .1 .1 .0) .1
 
 add-i : tie.Need-add-i Inv-loop μ-loop
 add-i c =
-    let test = c .before .before .before .before .before .before .before .before .before .before .before .before .before .before .before .before in
+    let test = tested (c .before .before .before) in
     let l = test .before in
-    let s = l .before .before .before .before .before .before .before in
+    let s = entry l in
     omega (arith, stack-few _ (s .pre .0) (s .pre .1 .0) (l .loop .inv .1 .1) (omega (arith, test .loop-test .taken)))
 
 loop-less : tie.Need-loop-less Inv-loop μ-loop
 loop-less c =
-    let test = c .before .before .before .before .before .before .before .before .before .before .before .before .before .before .before .before in
+    let test = tested (c .before .before .before) in
     let l = test .before in
-    let s = l .before .before .before .before .before .before .before in
+    let s = entry l in
     omega (arith, test .loop-test .taken, stack-taken _ (s .pre .0) (s .pre .1 .0) (l .loop .inv .1 .1) (omega (arith, test .loop-test .taken)) _ (s .pre .1 .1 .1 .0) _ (s .pre .1 .1 .0))
 
 loop-again : tie.Need-loop-again Inv-loop μ-loop
 loop-again c =
     let drawn = c .before .before .before in
     let chosen = drawn .before .before .before .before in
-    let measured = chosen .before .before .before .before .before in
-    let test = measured .before .before .before .before in
+    let measured = told drawn in
+    let test = tested drawn in
     let l = test .before in
-    let s = l .before .before .before .before .before .before .before in (
+    let s = entry l in (
       measured .prepare .kept .1 .1 .0 ∙ l .loop .inv .0,
       (
         measured .prepare .kept .1 .1 .1 .0 ∙ l .loop .inv .1 .0,

@@ -8,6 +8,13 @@ use borrow.Author.Needs.{needs}
 use Rattle.records.proofs.read.Statement.{statement}
 use Rattle.records.proofs.read.Tie as tie
 
+-- The places on the way back: from past the first test to where the table is traced, and to the entry.
+abbrev traced-before : tie.Else1 → tie.After-trace
+traced-before c = c .before .before .before .before .before .before
+
+abbrev entry : tie.After-trace → tie.Start
+entry c = c .before .before .before .before .before .before .before
+
 slice-write-sizes : tie.Need-slice-write-sizes
 slice-write-sizes c = search needs
 
@@ -37,15 +44,15 @@ same-length-6 c = search needs
 
 returns-2 : tie.Need-returns-2
 returns-2 c =
-    let traced = c .before .before .before .before .before .before .before .before in
-    let s = traced .before .before .before .before .before .before .before in
+    let traced = traced-before (c .before .before) in
+    let s = entry traced in
     sized _ _ _ _ _ _ (traced .trace .ensures) (λ z. no-nodes _ _ (sym (traced .trace .ensures .accepted z .nodes) ∙ c .if2 .taken) (unfilled _ (s .args .sizes .now) (s .pre .0 .1)))
 
 measure-requires : tie.Need-measure-requires
 measure-requires c κs =
     let at-if1 = c .before .before .before .before in
-    let traced = c .before .before .before .before .before .before .before .before .before .before in
-    let s = traced .before .before .before .before .before .before .before in
+    let traced = traced-before at-if1 in
+    let s = entry traced in
     let e = at-if1 .if1 .left in
     let o = traced .trace .ensures .accepted e .ordered in
     (refusal-none _ _ .0 (sym (traced .trace .ensures .refusal) ∙ e) .0, ((o .enough, o .queued (c .before .before .if2 .left)), unfilled _ (s .args .sizes .now) (s .pre .0 .1)))
@@ -63,7 +70,7 @@ returns-3 : tie.Need-returns-3
 returns-3 c =
     let at-if2 = c .before .before .before .before .before in
     let at-if1 = at-if2 .before .before in
-    let traced = c .before .before .before .before .before .before .before .before .before .before .before .before .before in
+    let traced = traced-before at-if1 in
     let l = traced .trace .ensures .accepted (at-if1 .if1 .left) in
     sized _ _ _ _ _ _ (traced .trace .ensures) (λ z. filled-chain _ _ _ (l .ordered .enough) (l .ordered .queued (at-if2 .if2 .left)) (l .nodes) _ (c .before .before .measure .ensures))
 

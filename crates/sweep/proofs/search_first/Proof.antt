@@ -7,6 +7,10 @@ use borrow.Author.Needs.{needs}
 use Rattle.sweep.proofs.search_first.Statement.{statement}
 use Rattle.sweep.proofs.search_first.Tie as tie
 
+-- From where the worst is known back to where the lines are settled.
+abbrev settled : tie.After-worst-of → tie.After-settle
+settled c = c .before .before .before .before .before .before
+
 returns : tie.Need-returns
 returns c = (λ z. absurd (subst T (sym z) tt), seen-none _ _)
 
@@ -29,10 +33,10 @@ same-length-2 : tie.Need-same-length-2
 same-length-2 c = search needs
 
 returns-2 : tie.Need-returns-2
-returns-2 c = let s = c .before .before .before .before .before .before .before .settle in (
-  λ z. seen-worst (s .kept .0) (settled-seen (s .ensures)) (c .before .worst-of .ensures .0 z),
-  settled-seen (s .ensures),
-)
+returns-2 c =
+    let worst = c .before in
+    let s = settled worst .settle in
+    (λ z. seen-worst (s .kept .0) (settled-seen (s .ensures)) (worst .worst-of .ensures .0 z), settled-seen (s .ensures))
 
 settle-requires-2 : tie.Need-settle-requires-2
 settle-requires-2 c κs = search needs
@@ -44,10 +48,13 @@ same-length-4 : tie.Need-same-length-4
 same-length-4 c = search needs
 
 returns-3 : tie.Need-returns-3
-returns-3 c = let s = c .before .before .before .before .before .before .before .before .before .before .before .before .before .before .settle in (
-  λ z. seen-worst (s .kept .0) (settled-seen (s .ensures)) (c .before .before .before .before .before .before .before .before .worst-of .ensures .0 z),
-  seen-then (s .kept .0) (settled-seen (s .ensures)) (settled-seen (c .before .before .before .before .settle2 .ensures)),
-)
+returns-3 c =
+    let back = c .before .before .before .before in
+    let worst = back .before .before .before .before in
+    let s = settled worst .settle in (
+      λ z. seen-worst (s .kept .0) (settled-seen (s .ensures)) (worst .worst-of .ensures .0 z),
+      seen-then (s .kept .0) (settled-seen (s .ensures)) (settled-seen (back .settle2 .ensures)),
+    )
 
 pub search-first-spec : {M : Type 1} → statement M
 search-first-spec =

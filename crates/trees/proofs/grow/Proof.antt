@@ -14,6 +14,16 @@ use borrow.Author.Needs.{needs}
 use Rattle.trees.proofs.grow.Statement.{statement}
 use Rattle.trees.proofs.grow.Tie as tie
 
+-- The places on the way back: from past the third test to where the roots are listed, to past the second test, and to the entry.
+abbrev listed-before : tie.Else3 → tie.After-list-roots
+listed-before c = c .before .before .before
+
+abbrev chained-before : tie.After-list-roots → tie.Else2
+chained-before c = c .before .before .before
+
+abbrev entry : tie.Else2 → tie.Start
+entry c = c .before .before .before .before .before .before .before .before .before
+
 left-requires : tie.Need-left-requires
 left-requires c κs = search needs
 
@@ -38,24 +48,24 @@ returns-2 c =
 -- Past the second test the head's root is on the chain, and past the third no node is named wrongly.
 on-chain : (c : tie.Else2) →
     let first = c .before .before .before .before in
-    member (first .left .result) (chainOf (first .before .before .before .before .before .args .table .now)) ≡ true
+    member (first .left .result) (chainOf (entry c .args .table .now)) ≡ true
 on-chain c =
     let at-if1 = c .before .before .before in
-    let start = at-if1 .before .before .before .before .before .before in
+    let start = entry c in
     sym (marked-by _ _ _ _ (at-if1 .if1 .left) (start .pre .1 .0) (c .before .marked .ensures)) ∙ not-false _ (c .if2 .left)
 
-well-rooted : (c : tie.Else3) → Rooted (c .before .before .before .before .before .before .before .before .before .before .before .before .before .before .before .args .table .now)
+well-rooted : (c : tie.Else3) → Rooted (entry (chained-before (listed-before c)) .args .table .now)
 well-rooted c =
-    let found = c .before .before .before in
-    let m = found .before .before .before in
-    let s = m .before .before .before .before .before .before .before .before .before in
+    let found = listed-before c in
+    let m = chained-before found in
+    let s = entry m in
     rooted _ _ (m .before .before .before .before .left .ensures .0) (m .before .before .before .if1 .left) (on-chain m)
     (found .list-roots .ensures .well (c .if3 .left)) (s .pre .0 .shaped) (s .pre .0 .sound) (s .pre .1 .1 .0)
 
 list-roots-requires : tie.Need-list-roots-requires
 list-roots-requires c κs =
     let m = c .before .before in
-    let s = m .before .before .before .before .before .before .before .before .before in
+    let s = entry m in
     let h = sound-within _ (s .pre .0 .sound) (m .before .before .before .before .left .result) (T-true _ .1 (on-chain m)) in
     (s .pre .0, (m .before .before .before .before .left .ensures .0, (omega (arith, h, s .pre .0 .shaped .room), (s .pre .1 .1 .1, s .pre .1 .0 .long))))
 
@@ -68,14 +78,14 @@ same-length-3 c = search needs
 returns-3 : tie.Need-returns-3
 returns-3 c =
     let found = c .before .before .before in
-    let m = found .before .before .before in
+    let m = chained-before found in
     grown-bad _ _ _ (ill-named _ _ (m .before .before .before .before .left .ensures .0) (m .before .before .before .if1 .left) (found .list-roots .ensures .ill (c .if3 .taken)))
 
 reaches-requires : tie.Need-reaches-requires
 reaches-requires c κs =
     let e = c .before .before in
-    let found = e .before .before .before in
-    let s = found .before .before .before .before .before .before .before .before .before .before .before .before in
+    let found = listed-before e in
+    let s = entry (chained-before found) in
     (well-rooted e, (s .pre .0 .nodes, ((found .list-roots .ensures .room, found .list-roots .ensures .listed (e .if3 .left)), s .pre .1 .1 .1 .long)))
 
 same-length-4 : tie.Need-same-length-4
@@ -87,8 +97,8 @@ same-length-5 c = search needs
 returns-4 : tie.Need-returns-4
 returns-4 c =
     let e = c .before .before .before .before .before in
-    let found = e .before .before .before in
-    let m = found .before .before .before in
+    let found = listed-before e in
+    let m = chained-before found in
     grown _ _ (m .before .before .before .before .left .ensures .0) (m .before .before .before .if1 .left) (on-chain m) (found .list-roots .ensures .well (e .if3 .left)) _ _ _
     (c .before .before .reaches .ensures .0) (c .before .before .reaches .ensures .1)
 

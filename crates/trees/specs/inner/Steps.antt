@@ -1,16 +1,16 @@
 -- What the tests of the links and of the trees leave to the next one. No promise to a caller is here.
 use mathlib.Core.Path.{_≡_}
-use mathlib.Core.Bool.{Bool, true, false, cond, not, _&&_, _||_}
+use mathlib.Core.Bool.{Bool, true, false, not, _&&_, _||_}
 use mathlib.Core.List.{List, [], _∷_, _++_}
 use Prim.Native.Nat.{ℕ, zero, suc, _+_, _≤_, _<_}
 use lib.Dec.{T, eqb, ltb}
 use lib.ListN.{length, getD, take}
 use Rattle.table.specs.Lists.{any, member, count}
-use Rattle.table.specs.Table.{records, trail, chain, Chained, rootOf}
+use Rattle.table.specs.Table.{chain, Chained, rootOf}
 use Rattle.table.specs.Tree.{treeAt, size}
 use Rattle.chains.specs.inner.Listing.{Shaped}
 use Rattle.table.specs.Trees.{links, named, roots, trees, nodesOf}
-use Rattle.table.specs.Refusal.{badLength, badHead, broken, badChain, badLinks, badTree}
+use Rattle.table.specs.Refusal.{badChain, badLinks, badTree}
 
 -- tally has how often each record is named as a child.
 pub record Tallied (t tally : List ℕ) : Type 0 where

@@ -8,6 +8,16 @@ use Rattle.wide.proofs.Mirrored.{copied-front, mirrored-copy, front-roo
 use Rattle.wide.proofs.wide_plan.Statement.{statement}
 use Rattle.wide.proofs.wide_plan.Tie as tie
 
+-- The places on the way back: from where the copy is drawn to where it is exchanged, to where it is made, and to the entry.
+abbrev turned-before : tie.After-plan-of → tie.After-exchange-table
+turned-before c = c .before .before .before .before .before
+
+abbrev copied-before : tie.After-exchange-table → tie.After-copy
+copied-before c = c .before .before .before
+
+abbrev entry : tie.After-copy → tie.Start
+entry c = c .before .before .before .before .before .before .before
+
 slice-aggregate-copy : tie.Need-slice-aggregate-copy
 slice-aggregate-copy c = search needs
 
@@ -18,7 +28,7 @@ copy-requires c κs = let s = c .before .before .before .before .before .before 
 array-borrow-prefix-mirrored : tie.Need-array-borrow-prefix-mirrored
 array-borrow-prefix-mirrored c =
     let copied = c .before in
-    let s = copied .before .before .before .before .before .before .before in
+    let s = entry copied in
     omega (arith, copied .copy .kept .1 .0, records-bounds _ (s .pre .0))
 
 slice-aggregate-exchange-table : tie.Need-slice-aggregate-exchange-table
@@ -27,7 +37,7 @@ slice-aggregate-exchange-table c = sym (length-take-le _ _ (array-borrow-prefix-
 exchange-table-requires : tie.Need-exchange-table-requires
 exchange-table-requires c κs =
     let copied = c .before .before in
-    let s = copied .before .before .before .before .before .before .before in
+    let s = entry copied in
     (listed-few _ _ _ (s .pre .0) (s .pre .1 .1 .1 .1 .0 .0) (s .pre .1 .1 .1 .1 .1 .1), listed-within _ _ _ (s .pre .0) (copied-front _ _ _ (copied .copy .ensures)) (s .pre .1 .1 .1 .1 .0 .1))
 
 array-share-prefix-mirrored : tie.Need-array-share-prefix-mirrored
@@ -44,15 +54,15 @@ slice-aggregate-plan-of-2 c = search needs
 plan-of-requires : tie.Need-plan-of-requires
 plan-of-requires c κs =
     let turned = c .before .before .before .before in
-    let copied = turned .before .before .before in
-    let s = copied .before .before .before .before .before .before .before in
+    let copied = copied-before turned in
+    let s = entry copied in
     let e = mirrored-copy _ _ _ _ (copied-front _ _ _ (copied .copy .ensures)) (s .pre .1 .1 .1 .1 .0 .1) (turned .exchange-table .ensures) in
     mirrored-asked _ _ _ _ _ _ _ (s .pre .0) e (s .pre .1 .0) (s .pre .1 .1 .0) (s .pre .1 .1 .1 .0) refl (s .pre .1 .1 .1 .1 .1 .0) (s .pre .1 .1 .1 .1 .1 .1)
 
 exchange-placements-requires : tie.Need-exchange-placements-requires
 exchange-placements-requires c κs =
     let drawn = c .before .before .before .before in
-    let s = drawn .before .before .before .before .before .before .before .before .before .before .before .before .before .before .before in (
+    let s = entry (copied-before (turned-before drawn)) in (
       listed-few _ _ _ (s .pre .0) (s .pre .1 .1 .1 .1 .0 .0) (s .pre .1 .1 .1 .1 .1 .1),
       listed-room _ _ _ _ (s .pre .0) (s .pre .1 .1 .1 .1 .1 .0) (drawn .plan-of .kept .1 .1 .1 .1 .0) (s .pre .1 .1 .1 .1 .0 .1),
     )
@@ -63,9 +73,9 @@ same-length c = search needs
 returns : tie.Need-returns
 returns c =
     let drawn = c .before .before .before .before .before .before .before in
-    let turned = drawn .before .before .before .before .before in
-    let copied = turned .before .before .before in
-    let s = copied .before .before .before .before .before .before .before in
+    let turned = turned-before drawn in
+    let copied = copied-before turned in
+    let s = entry copied in
     let e = mirrored-copy _ _ _ _ (copied-front _ _ _ (copied .copy .ensures)) (s .pre .1 .1 .1 .1 .0 .1) (turned .exchange-table .ensures) in
     wide-planned _ _ _ _ _ _ _ (s .pre .0) (s .pre .1 .1 .1 .1 .1 .0) e (s .pre .1 .1 .1 .1 .0 .1) (drawn .plan-of .ensures) (c .before .before .exchange-placements .ensures)
 

@@ -8,6 +8,10 @@ use borrow.Author.Needs.{needs}
 use Rattle.verdict.proofs.touch.judge_lines.Statement.{statement}
 use Rattle.verdict.proofs.touch.judge_lines.Tie as tie
 
+-- From past the first test back to where the lines are sorted.
+abbrev sorted : tie.Else1 → tie.After-sort
+sorted c = c .before .before .before .before .before .before .before
+
 sort-requires : tie.Need-sort-requires
 sort-requires c κs = search needs
 
@@ -36,8 +40,7 @@ returns-2 : tie.Need-returns-2
 returns-2 c =
     let i1 = c .before .before .before in
     let sa = i1 .before in
-    let so = sa .before .before .before .before .before .before in
-    let r = so .sort in
+    let r = sorted i1 .sort in
     first-moved (r .ensures .0) (r .kept .0) (inr (
       fails (i1 .if1 .left) (sa .same-end .ensures),
       inl (holds (c .if2 .taken) (c .before .rises .ensures), refl),
@@ -59,12 +62,13 @@ same-length-7 : tie.Need-same-length-7
 same-length-7 c = search needs
 
 returns-3 : tie.Need-returns-3
-returns-3 c = let w = c .before .before .before .before .before .before .before in
-    let b = c .before .before .before .before .before .before .before .before .before .before .before in
-    let a = c .before .before .before .before .before .before .before .before .before .before .before .before .before .before in
-    let r = c .before .before .before .before .before .before .before .before .before .before .before .before .before .before .before .before .before .before .before .before .before .sort in
-    first-moved (r .ensures .0) (r .kept .0) (worst-first (w .worst-meeting .result) (fails (a .if1 .left) (a .before .same-end .ensures))
-    (fails (b .if2 .left) (b .before .rises .ensures)) (w .worst-meeting .ensures) (c .worst-verdict .ensures))
+returns-3 c =
+    let met = c .before .before .before .before .before .before .before in
+    let downward = met .before .before .before .before in
+    let ends-differ = downward .before .before .before in
+    let r = sorted ends-differ .sort in
+    first-moved (r .ensures .0) (r .kept .0) (worst-first (met .worst-meeting .result) (fails (ends-differ .if1 .left) (ends-differ .before .same-end .ensures))
+    (fails (downward .if2 .left) (downward .before .rises .ensures)) (met .worst-meeting .ensures) (c .worst-verdict .ensures))
 
 pub judge-lines-spec : {M : Type 1} → statement M
 judge-lines-spec =
