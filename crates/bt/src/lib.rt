@@ -1,6 +1,5 @@
 // The library for other languages (include/bt.h). Each function has the contract of the proved one that it calls; what is promised beyond that contract is
-// named there, as
-// that cutting a leaf just hung restores every byte at `cutting::cut`.
+// named there, as that cutting a leaf just hung restores every byte at `cutting::cut`.
 use drawing::Drawn;
 use hanging::Hung;
 use hanging::cut;

@@ -1,7 +1,6 @@
 // Placing (document 004, Steps 5 and 6, and the drawings of Step 3; document 01, steps 1 and 3 to 8): the points of a drawing, in the columns and rows of
-// the whole plan, stored among the placements.
-// The roles and W of each spine are handed over and only read; placing chooses none. "004" and "01" below are these documents, whose steps have numbers of
-// their own.
+// the whole plan, stored among the placements. The roles and W of each spine are handed over and only read; placing chooses none. "004" and "01" below are
+// these documents, whose steps have numbers of their own.
 use placements::set_point;
 use roles::Fork;
 use roles::fork_at;

@@ -11,8 +11,7 @@ use Rattle.width.specs.Allowed.{allowedWidth}
 use Rattle.wide.specs.Wide.{drawWide, widePlacedIn}
 
 -- "A wide plan with its columns and rows exchanged must pass the sheet check against the mirrored table": `good`. "Height is then within the allowed width
--- and width is at most
--- n": `low` and `bounded`, of the extents that the call answers (`wideOf`), "with n counting all boxes".
+-- and width is at most n": `low` and `bounded`, of the extents that the call answers (`wideOf`), "with n counting all boxes".
 pub record WideKept (t p : List ℕ) : Type 0 where
   pub good : Verdict (exchanged t) (exchangedPlacements t (widePlacedIn t p)) 0
   pub low : heightOf (drawWide (trees t)) ≤ allowedWidth (length (chain t))

@@ -16,8 +16,8 @@ pub data Hangs (k : ℕ) (U : Tree) : List Assigned → Type 0 where
   further : {l : Assigned} {ls : List Assigned} → Hangs k U ls → Hangs k U (l ∷ ls)
 
 -- "every spine": in the drawing of a, S is drawn along a spine of its own. It is a, or hangs from the spine of such a tree and is "drawn by these same
--- steps"; on a right hand S is the
--- mirror image, so that its spine is that of the "tree being drawn". Each node of a is on one of these spines (`EveryNodeOnASpine`, promises).
+-- steps"; on a right hand S is the mirror image, so that its spine is that of the "tree being drawn". Each node of a is on one of these spines
+-- (`EveryNodeOnASpine`, promises).
 pub data DrawnIn (a : Tree) : Tree → Type 0 where
   whole : DrawnIn a a
   hung : {S U : Tree} {k : ℕ} → DrawnIn a S → Hangs k U (roles (spine S)) → DrawnIn a U
@@ -54,9 +54,8 @@ pub record SpinesApart (plan : ℕ → Point) (a : Tree) : Type 0 where
   pub outside : {S U U′ : Tree} {k m : ℕ} → DrawnIn a S → Hangs k U (roles (spine S)) → Hangs m U′ (roles (spine S)) → InRectangle plan U′ (plan k) → ⊥
 
 -- "When I cover a branch with a ruler I want nothing of its neighbour beneath it." A branch is a tree U that is drawn in the drawing of a, a itself too.
--- Beneath a ruler over its rows a node b may be:
--- one of its own, or one of a spine along which one comes to it, of a tree S in whose drawing U is, before U or after it; so none of another branch. (Of
--- lines nothing is promised.)
+-- Beneath a ruler over its rows a node b may be: one of its own, or one of a spine along which one comes to it, of a tree S in whose drawing U is, before U
+-- or after it; so none of another branch. (Of lines nothing is promised.)
 pub data Beneath (a : Tree) (b : ℕ) (U : Tree) : Type 0 where
   inside : T (member b (nodes U)) → Beneath a b U
   beside : {S U′ : Tree} → DrawnIn a S → DrawnIn S U → Hangs b U′ (roles (spine S)) → Beneath a b U

@@ -6,8 +6,7 @@ use Rattle.layout.specs.Layout.{Layout, width, height, shift}
 use Rattle.layout.specs.Drawing.{draw}
 
 -- Each tree "set with its root at column 0 in the row under the tree before": their drawings, the first with its top at row r. In a drawing the root is at
--- column 0 in
--- the top row (`RootsBelow`, promises).
+-- column 0 in the top row (`RootsBelow`, promises).
 unfoldable pub drawFrom : ℕ → List Tree → List Layout
 drawFrom r [] = []
 drawFrom r (a ∷ ts) = shift 0 r (draw a) ∷ drawFrom (r + height (draw a)) ts

@@ -11,7 +11,6 @@ pub record Quarter (n : ℕ) : Type 0 where
   pub exact : HasValue float false n 4
 
 -- The quarter of n: n · 2^0 / 2^2, of an n of at most 32 binary digits written as all floats are, with an odd m, or as 0. No other 64-bit float is a
--- quarter of such
--- an n (`OneQuarter`, promises).
+-- quarter of such an n (`OneQuarter`, promises).
 unfoldable pub quarterOf : (n : ℕ) → Quarter n
 quarterOf n = record { float = odd 32 false n 0 2; exact = rw (mul-one n) at (odd-sign 32 false n 0 2) }

@@ -20,8 +20,7 @@ pub record Inside (P Q : Point) (q x y : ℕ) : Type 0 where
   pub before-end : on .s < q
 
 -- Parallel, which for lines that share a point is "running along each other": a·d = b·c, for Q at column difference a and row difference b from P, and S at
--- c and d
--- from R. A line of one point is parallel to every line.
+-- c and d from R. A line of one point is parallel to every line.
 abbrev pub Parallel : Point → Point → Point → Point → Type 0
 Parallel P Q R S = (pos (Q .column) -ℤ pos (P .column)) *ℤ (pos (S .row) -ℤ pos (R .row)) ≡ (pos (Q .row) -ℤ pos (P .row)) *ℤ (pos (S .column) -ℤ pos (R .column))
 

@@ -1,7 +1,6 @@
 // Conditions 21, 22, 23 and 25 over lines as numbers: two that end at one point, one that goes up, two that cross, two that share another point which does
-// not end both.
-// No node is held against a line: each node has a line that ends at it, so that a node on a line that it does not end shows as two lines that clash
-// (`clashing`, proofs/Places).
+// not end both. No node is held against a line: each node has a line that ends at it, so that a node on a line that it does not end shows as two lines that
+// clash (`clashing`, proofs/Places).
 use line::end;
 use line::start;
 use segment::meeting::Meeting;

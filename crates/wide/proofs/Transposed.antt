@@ -1,8 +1,6 @@
 -- Transposed layouts, one or several: the extents are exchanged (`width-transposed`, `height-transposed`, `width-turned`, `height-turned`), the records are
--- the same (`times-turned`), and the
--- placements of an accepted table's drawings, exchanged, are those of the drawings transposed (`turned-stored`); the root of each is in row 0
--- (`wide-rooted`). Rests on the laws of `store` and `storeAll`, of exchanged placements and of an
--- accepted table.
+-- the same (`times-turned`), and the placements of an accepted table's drawings, exchanged, are those of the drawings transposed (`turned-stored`); the
+-- root of each is in row 0 (`wide-rooted`). Rests on the laws of `store` and `storeAll`, of exchanged placements and of an accepted table.
 use mathlib.Core.Path.{_≡_, refl, sym, ap, ap₂, _∙_}
 use mathlib.Core.Logic.{inl, inr}
 use mathlib.Core.Bool.{Bool, true, false}
