@@ -108,7 +108,7 @@ pub fn plan_of(
 
 // Draws the trees of a table: its refusal and plan, and the placements of its nodes. All placements are kept on a refusal.
 // Promised beyond this contract (promises/specs/Promises): `AcceptedIsGood`, `AtMost37`, `RootsBelow`, `RowsNotShared`, `RulerCovers`, `RowsFilled`,
-// `EveryNodeOnASpine`, `DrawnBySteps`, `PlainKeepsOthers`, `OffChainPlain`, `StarredSheets`, `PlanAsFirst`, `PlanAsBefore`.
+// `EveryNodeOnASpine`, `DrawnBySteps`, `FlipsWhole`, `PlainKeepsOthers`, `OffChainPlain`, `StarredSheets`, `PlanAsFirst`, `PlanAsBefore`.
 pub fn draw(table: &[u8], placements: &mut [u16]) -> Drawn
     ensures { λ r. ⌜ (r ≡ drawnOf (now (table .entry)) (now (placements .entry)))
         × (now (placements .exit) ≡ placedIn (now (table .entry)) (now (placements .entry))) ⌝ }

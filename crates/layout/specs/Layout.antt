@@ -30,8 +30,8 @@ unfoldable pub shift : ℕ → ℕ → Layout → Layout
 shift e t blank = blank
 shift e t (placed k P a b) = placed k (at (e + P .column) (t + P .row)) (shift e t a) (shift e t b)
 
--- "flipped left to right" (step 3), "left and right exchanged and column k read as" e − k (step 7). The difference never cuts off: what the steps flip at W + 2
--- is at most W + 3 wide (`Knee`, its field `wide`, and `along`, proofs/Steps and Along).
+-- "flipped left to right" (step 3), "left and right exchanged and column k read as" e − k (step 7). The difference never cuts off: what the steps flip at
+-- W + 2 is at most W + 3 wide (`FlipsWhole`, promises).
 unfoldable pub flip : ℕ → Layout → Layout
 flip e blank = blank
 flip e (placed k P a b) = placed k (at (e - P .column) (P .row)) (flip e b) (flip e a)

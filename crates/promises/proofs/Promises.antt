@@ -2,6 +2,7 @@
 use Rattle.segment.proofs.FourKinds.{one-kind, some-kind}
 use Rattle.table.proofs.Accepted.{chain-ended, free-ended, tree-unfolds, nodes-chain, nodes-distinct}
 use Rattle.width.proofs.FloorLog2.{floor-bounds, floor-unique, allowed-4096, allowed-most}
+use Rattle.layout.proofs.Narrow.{place-narrow}
 use Rattle.layout.proofs.Whole.{draw-law}
 use Rattle.layout.proofs.Stacked.{rooted-below}
 use Rattle.layout.proofs.OnSpine.{on-a-spine}
@@ -42,6 +43,7 @@ promises = record {
   trees-whole = tree-unfolds;
   trees-of-the-chain = λ t ok. (nodes-chain t ok, nodes-distinct t ok);
   drawn-by-steps = draw-law;
+  flips-whole = place-narrow;
   one-floor = λ n k some. (floor-unique some, λ e. rw e (floor-bounds n some));
   digits-whole = λ n. (decimal-one n, decimal-more n);
   plain-keeps-others = kept-elsewhere;

@@ -21,8 +21,8 @@ use Rattle.table.specs.Refusal.{fault, refusal}
 use Rattle.table.specs.OffChain.{OnNeither, OffChain}
 use Rattle.table.specs.Writing.{Bytes}
 use Rattle.width.specs.Allowed.{IsFloor, floorLog2, allowedWidth}
-use Rattle.layout.specs.Layout.{RootAt, shift}
-use Rattle.layout.specs.Drawing.{steps, draw}
+use Rattle.layout.specs.Layout.{width, RootAt, shift}
+use Rattle.layout.specs.Drawing.{Part, widest, place, steps, draw}
 use Rattle.layout.specs.Rectangle.{OnSpine}
 use Rattle.drawing.specs.Answer.{drawnOf, placedIn, KeptElsewhere}
 use Rattle.wide.specs.Wide.{transposed, wideOf, widePlacedIn}
@@ -63,6 +63,10 @@ TreesOfTheChain = (t : List ℕ) → fault t ≡ 0 → ((k : ℕ) → T (member 
 -- The drawing of a tree is made by the steps, of which drawing what hangs is one.
 abbrev pub DrawnBySteps : Type 0
 DrawnBySteps = (a : Tree) → draw a ≡ steps draw a
+
+-- Columns flipped at W + 2: what is drawn from a spine node on is at most W + 3 wide, so that no difference cuts off.
+abbrev pub FlipsWhole : Type 0
+FlipsWhole = (W H r p : ℕ) (ps : List Part) → widest ps ≤ W → width (place W H r p ps .drawn) ≤ W + 3
 
 -- The allowed width: floorLog2 n is floor(log2 n), and no other number is.
 abbrev pub OneFloor : Type 0
@@ -258,6 +262,7 @@ pub record Promises : Type 0 where
   pub trees-whole : TreesWhole
   pub trees-of-the-chain : TreesOfTheChain
   pub drawn-by-steps : DrawnBySteps
+  pub flips-whole : FlipsWhole
   pub one-floor : OneFloor
   pub digits-whole : DigitsWhole
   pub plain-keeps-others : PlainKeepsOthers
