@@ -1,4 +1,6 @@
 // Along which axis lines are sorted: by rows, or by columns where they overlap less in these (specs/inner/Arranged).
+#![tactic(auto)]
+
 ghost use Rattle.std.specs.Prelude.{◌≡◌, ◌+◌, ◌≤◌, ◌<◌, length};
 ghost use Rattle.line.specs.inner.Line.{start_of, end_of};
 ghost use Rattle.axis.specs.inner.Arranged.{view, Joined, Arranged, Settled};
@@ -54,7 +56,7 @@ fn arrange(lines: &mut [u64], across: bool)
 }
 
 // How far lines reach along one axis: from the least place to the greatest, and in sum.
-#[derive(Drop)]
+#[derive(Clone, Copy)]
 struct Reach {
     low: u16,
     high: u16,
@@ -107,7 +109,7 @@ fn abreast(r: Reach) -> u64
 }
 
 // Along which axis lines are searched, and whether they lie far abreast along both. Any answer is right: it decides only the time.
-#[derive(Drop)]
+#[derive(Clone, Copy)]
 pub struct View {
     pub across: bool,
     pub far: bool,

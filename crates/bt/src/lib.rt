@@ -1,5 +1,7 @@
 // The library for other languages (include/bt.h). Each function has the contract of the proved one that it calls; what is promised beyond that contract is
 // named there, as that cutting a leaf just hung restores every byte at `cutting::cut`.
+#![tactic(auto)]
+
 ghost use Rattle.std.specs.Prelude.{◌≡◌, [], ◌∷◌};
 ghost use Rattle.drawing.specs.Answer.{drawn_of, placed_in};
 ghost use Rattle.hanging.specs.Hanging.{said, hang_says, after_hang};

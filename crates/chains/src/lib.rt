@@ -1,4 +1,6 @@
 // Causes 3 and 8: the walks along the chain and along the free records.
+#![tactic(auto)]
+
 ghost use Rattle.std.specs.Prelude.{◌≡◌, ◌||◌, not, ◌<◌, eqb, length, get_or};
 ghost use Rattle.table.specs.Lists.{any, member};
 ghost use Rattle.table.specs.Table.{records, chain as chainOf, free as freeOf};
@@ -8,7 +10,7 @@ ghost use Rattle.chains.specs.inner.Listing.{Shaped, Blank, Listed, Marked, Walk
 use access::words::{left, next, right, tag};
 
 // Whether a walk was broken off; if not, how many records it met.
-#[derive(Drop)]
+#[derive(Clone, Copy)]
 pub struct Trail {
     pub broken: bool,
     pub count: usize,

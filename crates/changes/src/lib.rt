@@ -1,5 +1,7 @@
 // What the calls that hang, hold and cut leave of a table, and what any list of them keeps of an accepted one. The statements are in specs, the proofs in
 // proofs; two are told of the running code as well.
+#![tactic(auto)]
+
 ghost use Rattle.std.specs.Prelude.{◌≡◌};
 ghost use Rattle.hanging.specs.Hanging.{hang_refusal, after_hang};
 

@@ -1,4 +1,6 @@
 // Cutting a leaf off a tree of a table.
+#![tactic(auto)]
+
 pub mod find;
 
 ghost use Rattle.std.specs.Prelude.{◌≡◌, ◌<◌};
@@ -33,7 +35,7 @@ fn no_leaf(table: &[u8], chain: &[u16], nodes: usize, k: usize) -> bool
 }
 
 // A record, and the word of it that names a leaf.
-#[derive(Drop)]
+#[derive(Clone, Copy)]
 struct Hook {
     holder: usize,
     slot: usize,

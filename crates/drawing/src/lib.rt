@@ -1,4 +1,6 @@
 // The drawer: Algorithm BT-Ordered-Draw over a table of records.
+#![tactic(auto)]
+
 mod place;
 
 ghost use Rattle.std.specs.Prelude.{◌≡◌, ◌*◌, ◌≤◌, length};
@@ -15,7 +17,7 @@ use records::read;
 use roles::{most, prepare};
 
 // The extent of a drawing.
-#[derive(Drop)]
+#[derive(Clone, Copy)]
 pub struct Plan {
     pub nodes: u16,
     pub width: u16,
@@ -32,14 +34,14 @@ impl Plan {
 }
 
 // The drawer's answer: a refusal and the empty plan, or 0 and the plan.
-#[derive(Drop)]
+#[derive(Clone, Copy)]
 pub struct Drawn {
     pub refusal: u16,
     pub plan: Plan,
 }
 
 // The extent of trees that are drawn one under the other: their width, and the first row below them.
-#[derive(Drop)]
+#[derive(Clone, Copy)]
 struct Extent {
     width: usize,
     height: usize,

@@ -15,7 +15,7 @@ use roles::{Fork, fork_at, most};
 
 // A walk along the spine of a drawing: the next node and its row, the lowest row used so far, the pending child, 0 for none; the hand that the node
 // is on, by its role, and that hand's edge; W of the spine, and whether its drawing is on the right side.
-#[derive(Drop)]
+#[derive(Clone, Copy)]
 pub struct Walk {
     pub at: usize,
     pub row: usize,

@@ -1,4 +1,6 @@
 // Words and numbers written into a buffer from a place on. Each function answers the place behind what it wrote.
+#![tactic(auto)]
+
 ghost use Rattle.std.specs.Prelude.{◌≡◌, [], ◌∷◌, ◌+◌, ◌<◌, ◌≤◌, length};
 ghost use Rattle.fields.specs.Fields.{decimal, fields};
 ghost use Rattle.fields.specs.inner.Put.{Put};

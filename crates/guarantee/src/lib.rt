@@ -1,10 +1,12 @@
 // Draws, then checks: what the drawer accepts, the check calls good.
+#![tactic(auto)]
+
 ghost use Rattle.guarantee.specs.Demand.{Guaranteed};
 
 use drawing::Drawn;
 
 // The drawer's answer, and what the check says of the placements as the drawer left them.
-#[derive(Drop)]
+#[derive(Clone, Copy)]
 pub struct Checked {
     pub drawn: Drawn,
     pub verdict: u16,

@@ -1,4 +1,6 @@
 // A line as a number: the number of its end above that of its start, each counted row by row (specs/inner/Line).
+#![tactic(auto)]
+
 ghost use Rattle.std.specs.Prelude.{◌≡◌, ◌<◌};
 ghost use Rattle.segment.specs.inner.Test.{number as number_of};
 ghost use Rattle.line.specs.inner.Line.{start_of, end_of, first as first_of, last as last_of};

@@ -1,4 +1,6 @@
 // Left and right, and column and row, exchanged at listed records.
+#![tactic(auto)]
+
 ghost use Rattle.std.specs.Prelude.{◌≡◌, ℕ, ◌+◌, ◌*◌, ◌≤◌, ◌<◌, T, length, take};
 ghost use Rattle.table.specs.Lists.{member};
 ghost use Rattle.table.specs.Table.{records};

@@ -1,6 +1,8 @@
 // Are lines surely without a clash? A sweep over all numbers, from the greatest down, has the lines abreast at a level from right to left and
 // compares neighbours only. "No" says nothing. Where a line comes in, and at which level lines go out, are guesses: a wrong one shows, since neighbours
 // are then not side by side, or a line never goes out. What is known of the lines abreast is `Abreast` (specs/inner/Abreast).
+#![tactic(auto)]
+
 mod abreast;
 mod side;
 

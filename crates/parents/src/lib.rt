@@ -1,4 +1,6 @@
 // The parents of the nodes of an accepted table.
+#![tactic(auto)]
+
 ghost use Rattle.std.specs.Prelude.{◌≡◌, ◌<◌, length};
 ghost use Rattle.chains.specs.inner.Listing.{Blank};
 ghost use Rattle.records.specs.inner.Reading.{Nodes};

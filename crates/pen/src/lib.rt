@@ -1,4 +1,6 @@
 // Strokes of a pen plotter that draws the lines of a table with placements.
+#![tactic(auto)]
+
 mod lines;
 pub mod points;
 pub mod strokes;

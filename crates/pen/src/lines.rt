@@ -8,14 +8,14 @@ ghost use Rattle.pen.specs.inner.Steps.{after};
 use records::words::{index, left, right};
 
 // A line by the records at its ends.
-#[derive(Drop)]
+#[derive(Clone, Copy)]
 pub struct Ends {
     pub parent: usize,
     pub child: usize,
 }
 
 // The line that is sought, or how many more are to be passed.
-#[derive(Drop)]
+#[derive(Clone, Copy)]
 enum Step {
     Here(Ends),
     Past(u64),

@@ -6,7 +6,7 @@ ghost use Rattle.pen.specs.Strokes.{pen_at};
 use placements::point;
 
 // A point in millimetres: how far it is to the right of column 0, and how far below row 0.
-#[derive(Drop)]
+#[derive(Clone, Copy)]
 pub struct PenPoint {
     pub x: f64,
     pub y: f64,

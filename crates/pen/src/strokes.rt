@@ -6,7 +6,7 @@ use crate::lines::Ends;
 use crate::points::{PenPoint, pen_at};
 
 // What the pen is to do, or why the call is refused.
-#[derive(Drop)]
+#[derive(Clone, Copy)]
 pub enum Stroke {
     Lift(PenPoint),
     Draw(PenPoint),

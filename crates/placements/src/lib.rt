@@ -1,4 +1,6 @@
 // The point of a record, read and written among the placements.
+#![tactic(auto)]
+
 ghost use Rattle.std.specs.Prelude.{◌≡◌, ◌+◌, ◌*◌, ◌<◌, length};
 ghost use Rattle.placements.specs.Placements.{point_of, with_point};
 

@@ -1,4 +1,6 @@
 // For tests/compare: are lines surely without a clash, as the check would ask it? A test, which promises nothing.
+#![tactic(auto)]
+
 use sort::sort;
 use sweep::surely_clear;
 

@@ -1,5 +1,7 @@
 // Reading a table of records: the refusals, the chain, the nodes breadth first from the roots on, and the sizes of the subtrees. Passes on what reads
 // and writes the words of a record.
+#![tactic(auto)]
+
 pub mod find;
 
 ghost use Rattle.std.specs.Prelude.{◌≡◌, cond, length};
@@ -17,7 +19,7 @@ use trees::links::strays;
 use trees::reach::measure;
 
 // A refusal, or 0 and the number of nodes (which means nothing beside a refusal).
-#[derive(Drop)]
+#[derive(Clone, Copy)]
 pub struct Reading {
     pub refusal: u16,
     pub nodes: usize,

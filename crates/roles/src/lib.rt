@@ -1,4 +1,6 @@
 // Spines measured before they are drawn: the roles of every spine, and its W. "004" is document 004, "01" document 01.
+#![tactic(auto)]
+
 mod choosing;
 mod hung;
 pub mod role;
@@ -16,7 +18,7 @@ use crate::hung::measure_left;
 use records::words::{left, right};
 
 // The child that a spine goes on to, the child off the spine, 0 for none, and whether that one is the right child.
-#[derive(Drop)]
+#[derive(Clone, Copy)]
 pub struct Fork {
     pub spine: usize,
     pub hung: usize,

@@ -7,7 +7,7 @@ ghost use Rattle.roles.specs.Chosen.{side_of, code_of};
 ghost use Rattle.roles.specs.inner.Roles.{is_knee, is_switch, hand_of, role_of};
 
 // Document 01's six roles; specs/inner/Roles gives the hand of each, and what it is on that hand.
-#[derive(Drop)]
+#[derive(Clone, Copy)]
 pub enum Role {
     LeftKnee,
     OrdinaryLeft,

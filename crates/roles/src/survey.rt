@@ -9,7 +9,7 @@ use crate::role::{Role, edge_of};
 
 // The node that the survey is at; of those before it, the greatest width of what hangs from them, the columns that they take
 // if the spine does not turn, and whether it turned.
-#[derive(Drop)]
+#[derive(Clone, Copy)]
 pub struct Survey {
     pub at: usize,
     pub widest: usize,

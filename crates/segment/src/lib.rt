@@ -1,4 +1,6 @@
 // Line segments between grid points: cross products, shared points, and how two segments meet.
+#![tactic(auto)]
+
 pub mod meeting;
 
 ghost use Rattle.std.specs.Prelude.{◌≡◌, ◌↔◌, min, max, T, pos, ◌-ℤ◌};
@@ -8,7 +10,7 @@ ghost use Rattle.segment.specs.Meeting.{Crosses};
 ghost use Rattle.segment.specs.inner.Test as Test;
 
 // A point of the grid: column 0 is leftmost, row 0 the top, rows grow downward.
-#[derive(Drop)]
+#[derive(Clone, Copy)]
 pub struct Point {
     pub column: u16,
     pub row: u16,

@@ -6,7 +6,7 @@ ghost use Rattle.segment.specs.Meeting.{MeetSo};
 use crate::{Point, cross, crosses, lies, meets};
 
 // Two segments share no point, only ends of both, a point inside both where they are not parallel, or any other.
-#[derive(Drop)]
+#[derive(Clone, Copy)]
 pub enum Meeting {
     Separate,
     SharedEnd,

@@ -1,5 +1,7 @@
 // The worst meeting of two lines of a list: lines sorted by their ends, and each compared with those before it that end after it starts. Where that takes long,
 // a sweep that compares neighbours only (`neighbours`) is asked first whether there is anything to be found.
+#![tactic(auto)]
+
 mod meeting;
 
 ghost use Rattle.std.specs.Prelude.{◌≡◌, true, false, ◌↔◌, ◌≤◌, ◌<◌, T, length, get_or};
@@ -16,7 +18,7 @@ use segment::meeting::Meeting;
 use segment::{least, most};
 
 // The worst meeting found, and the first line that was compared.
-#[derive(Drop)]
+#[derive(Clone, Copy)]
 struct Found {
     worst: Meeting,
     from: usize,
@@ -49,7 +51,7 @@ fn worst_before(lines: &[u64], i: usize, worst: Meeting) -> Found
 }
 
 // The worst meeting of two lines; if not whole, of some.
-#[derive(Drop)]
+#[derive(Clone, Copy)]
 struct Search {
     worst: Meeting,
     whole: bool,

@@ -1,4 +1,6 @@
 // The text of a table's drawing, as the program prints it (specs/Text).
+#![tactic(auto)]
+
 mod lines;
 
 ghost use Rattle.std.specs.Prelude.{◌≡◌, ◌++◌, length, drop};

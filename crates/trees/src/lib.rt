@@ -1,4 +1,6 @@
 // Causes 4 and 5: the links of the chained records, the roots, the nodes reached from them, breadth first, and the sizes of the subtrees.
+#![tactic(auto)]
+
 pub mod links;
 mod naming;
 pub mod reach;

@@ -24,6 +24,8 @@
 //   15 compare: eight words follow, the columns and rows of the ends of two lines. Prints 'compare' and 'separate', 'end', 'crossing' or 'touching'
 // The table that 11, 12 or 14 leaves is the table from there on.
 // The cases end with the input, or with a head of any other kind.
+#![tactic(auto)]
+
 mod input;
 mod text;
 
@@ -40,7 +42,7 @@ use segment::meeting::{Meeting, compare};
 use wide::Wide;
 
 // How many bytes the table has, how many placements there are, and whether cases are left.
-#[derive(Drop)]
+#[derive(Clone, Copy)]
 pub struct State {
     pub bytes: usize,
     pub places: usize,

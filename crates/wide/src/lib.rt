@@ -1,4 +1,6 @@
 // The wide plan: the mirror images of the trees drawn, then column and row of each node exchanged.
+#![tactic(auto)]
+
 ghost use Rattle.std.specs.Prelude.{◌≡◌, ◌*◌, ◌≤◌, length, take};
 ghost use Rattle.table.specs.Table.{records, root_of, chain as chainOf, Chained};
 ghost use Rattle.table.specs.Trees.{trees};
@@ -15,7 +17,7 @@ use records::read;
 use records::writing::copy;
 
 // The answer: a plan, or refused.
-#[derive(Drop)]
+#[derive(Clone, Copy)]
 pub enum Wide {
     Planned(Plan),
     Refused(u16),

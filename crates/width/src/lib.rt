@@ -1,4 +1,6 @@
 // The allowed width of a drawing of n nodes.
+#![tactic(auto)]
+
 ghost use Rattle.std.specs.Prelude.{◌≡◌, ◌<◌, ◌≤◌};
 ghost use Rattle.width.specs.Allowed.{floor_log2, allowed_width};
 
