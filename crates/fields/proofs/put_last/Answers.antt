@@ -2,7 +2,6 @@
 use native.Mathlib.Omega.{arith}
 use Rattle.fields.specs.Fields.{fields}
 use Rattle.fields.proofs.Puts.{put_behind}
-use borrow.Author.Rules.{rules}
 use Rattle.fields.proofs.put_last.Goals as goal
 
 pub returns : goal.returns

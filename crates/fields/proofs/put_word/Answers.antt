@@ -1,8 +1,5 @@
 -- `text::fields::put_word` meets its contract. Assumes nothing.
-use Prim.Native.Nat.{◌+◌, ◌-◌, ◌≤◌}
 use native.Mathlib.Omega.{arith}
-use lib.ListN.{length, take}
-use Rattle.fields.specs.inner.Put.{Put}
 use Rattle.fields.proofs.Puts.{put_start, put_next, put_end, put_length}
 use Rattle.fields.proofs.put_word.Goals as goal
 

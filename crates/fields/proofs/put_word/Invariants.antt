@@ -1,9 +1,7 @@
 -- `text::fields::put_word` meets its contract. Assumes nothing.
 use Prim.Native.Nat.{◌+◌, ◌-◌, ◌≤◌}
-use native.Mathlib.Omega.{arith}
 use lib.ListN.{length, take}
 use Rattle.fields.specs.inner.Put.{Put}
-use Rattle.fields.proofs.Puts.{put_start, put_next, put_end, put_length}
 use Rattle.fields.proofs.put_word.Given as goal
 
 abbrev pub invariant-loop-i : goal.invariant-loop-i
