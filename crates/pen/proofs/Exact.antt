@@ -9,7 +9,7 @@ use lib.Dec.{T, leb, lit<, lit≤, leb→le, nleb→lt}
 use lib.IntN.{ℤ, pos, negsuc}
 use lib.Count.{count_trailing_zeros}
 use lib.Pow.{shl_lt}
-use lib.Ieee.{Float, fin, up, down, minus, binary64, odd, round, of_int, div, fits}
+use lib.Ieee.{Float, fin, up, down, minus, binary64, odd, round, of_int, div, fits, nan, inf}
 use lib.Ieee.Fits.{down_pos, odd-fits, round-fits}
 use lib.Ieee.Exact.{HasValue, round_exact}
 use lib.Ieee.Back.{round_whole}
@@ -48,6 +48,8 @@ only x n h p v = unique x (quarter_of n).float false n 4 (lit< tt) p (quarter_fi
 -- x / 4.0, of an x that is the whole number n
 divided : (x : Float) (n : ℕ) → HasValue x false n 1 → div binary64 x (fin false 1 (pos 2)) ≡ round binary64 false n 4
 unfolding div
+divided nan n v = elim v [ ]
+divided (inf _) n v = elim v [ ]
 divided (fin true m e) n v = absurd (true≢false v.0)
 divided (fin false m e) n v =
     let d : 0 < down e = down_pos e in

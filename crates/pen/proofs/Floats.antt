@@ -6,7 +6,7 @@ use native.Mathlib.Nat.{lt_irrefl, zero-lt-suc, zero-mul, mul-one, one-mul, mul-
 use native.Mathlib.Omega.{arith}
 use lib.Dec.{T, eqb, ltb, leb, eqb→eq}
 use lib.IntN.{ℤ, pos, negsuc}
-use lib.Ieee.{Float, fin, up, down, binary64, fits}
+use lib.Ieee.{Float, fin, up, down, binary64, fits, nan, inf}
 use lib.Ieee.Fits.{up_pos, down_pos, and_l}
 use lib.Ieee.Exact.{HasValue}
 
@@ -68,6 +68,10 @@ not_zero m e g h =
     (mul-pos (mul-pos (zero-lt-suc m) (up_pos g)) (down_pos e)))
 
 pub unique : (x y : Float) (s : Bool) (a c : ℕ) → 0 < c → T (fits binary64 x) → T (fits binary64 y) → HasValue x s a c → HasValue y s a c → x ≡ y
+unique nan y u a c z p q v w = elim v [ ]
+unique (inf _) y u a c z p q v w = elim v [ ]
+unique (fin s m e) nan u a c z p q v w = elim w [ ]
+unique (fin s m e) (inf _) u a c z p q v w = elim w [ ]
 unique (fin s m e) (fin t k g) u a c z p q v w = go m k p q (crossed (m * up e) (down e) (k * up g) (down g) a c z v.1 w.1)
   where
     go : (m k : ℕ) → T (fits binary64 (fin s m e)) → T (fits binary64 (fin t k g)) → m * up e * down g ≡ k * up g * down e → fin s m e ≡ fin t k g

@@ -4,17 +4,13 @@ use Prim.Native.Nat.{ℕ, ◌*◌, ◌^◌, ◌≤◌, ◌<◌}
 use native.Mathlib.Nat.{mul-le-mul_right}
 use native.Mathlib.Omega.{arith}
 use borrow.Author.Rules.{rules}
-use Rattle.pen.proofs.points.product.Statement.{statement}
-use Rattle.pen.proofs.points.product.Tie as tie
+use Rattle.pen.proofs.points.product.Goals as goal
 
 below : (place pitch : ℕ) → place < 2 ^ 16 → pitch < 2 ^ 8 → place * pitch < 2 ^ 24
 below place pitch h k = let l : place * pitch ≤ 65535 * pitch = mul-le-mul_right pitch (omega arith) in omega arith
 
-mul-result : tie.Need-overflow-mul-result
-mul-result c = record { fits = omega (arith, below c.args.place c.args.pitch (search rules) (search rules)) }
+pub overflow_mul-result : goal.overflow_mul-result
+overflow_mul-result c = record { fits = omega (arith, below c.args.place c.args.pitch (search rules) (search rules)) }
 
-returns : tie.Need-returns
+pub returns : goal.returns
 returns c = (refl, below c.args.place c.args.pitch (search rules) (search rules))
-
-pub product-spec : {M : Type 1} → statement M
-product-spec = tie.close (tie.spec mul-result returns)
