@@ -68,7 +68,8 @@ no_crossing : {n : ℕ} {l : List ℕ} {m : Meeting} → grade m ≤ 1 → Worst
 no_crossing g w (j, h, (i, k, c)) = omega (arith, (w.none_worse i j k h).no_worse Crossing c)
 
 no_clash : {n : ℕ} {l : List ℕ} {m : Meeting} → grade m ≡ 0 → Worst n l m → Two Clash n l → ⊥
-no_clash g w (j, h, (i, k, c)) = let z = some_kind _ _ _ _ in
+no_clash {l = l} g w (j, h, (i, k, c)) =
+    let z = some_kind (start_of (get_or l i 0)) (end_of (get_or l i 0)) (start_of (get_or l j 0)) (end_of (get_or l j 0)) in
     omega (arith, (clash_graded z.0 _ _ _ _ z.1).0 c, (w.none_worse i j k h).no_worse z.0 z.1)
 
 -- The last two conditions, and all of them with the answers of the searches before.
