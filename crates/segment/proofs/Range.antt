@@ -7,7 +7,7 @@ use lib.IntN.{ℤ, pos, negsuc, ◌-ℤ◌, ◌*ℤ◌}
 use lib.Signed.{mag}
 use mir.Syntax.{Width}
 use mir.Val.{hbits, SFits, to_z, of_z}
-use mir.ValLaws.{to_z-of_z, to_z_pos}
+use mir.ValLaws.{to_z-of_z}
 use Rattle.segment.specs.declared.Point.{Point}
 use Rattle.segment.specs.Segment.{cross}
 use Rattle.segment.proofs.Difference.{Diff, diff_pos, diff_mul}
@@ -20,17 +20,6 @@ fits (negsuc n) h k l = omega arith
 -- what a call gave, as it is read back from its bits
 pub given : (w : Width) {z x : ℤ} → z ≡ x → mag z < 2 ^ hbits w → to_z w (of_z w z) ≡ x
 given w {z} e k = to_z-of_z w z (record { sfits = k }) ∙ e
-
--- a difference of two numbers
-plain : (w : Width) (a b : ℕ) → 65536 ≤ 2 ^ hbits w → a < 65536 → b < 65536 → to_z w a -ℤ to_z w b ≡ pos a -ℤ pos b
-plain w a b room k l = ap₂ ◌-ℤ◌ (to_z_pos w a (omega arith)) (to_z_pos w b (omega arith))
-
-pub fits_minus : {w : Width} {a b : ℕ} → 65536 ≤ 2 ^ hbits w → a < 65536 → b < 65536 → SFits w (to_z w a -ℤ to_z w b)
-fits_minus {w} {a} {b} room k l = rw (plain w a b room k l) (fits _ (diff_pos a b) (omega arith) (omega arith))
-
-pub read_minus : {w : Width} {a b : ℕ} → SFits w (to_z w a -ℤ to_z w b) → 65536 ≤ 2 ^ hbits w → a < 65536 → b < 65536 →
-    to_z w (of_z w (to_z w a -ℤ to_z w b)) ≡ pos a -ℤ pos b
-read_minus {w} {a} {b} f room k l = to_z-of_z w _ f ∙ plain w a b room k l
 
 below : {x y : ℕ} → x < 65536 → y < 65536 → x * y ≤ 4294836225
 below h k = mul-le-mul {n₂ = 65535} {m₂ = 65535} (omega arith) (omega arith)

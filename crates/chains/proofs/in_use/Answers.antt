@@ -7,7 +7,6 @@ use lib.Dec.{eqb}
 use borrow.Author.Tests.{eq-eqb, ne_eqb}
 use Rattle.table.specs.Table.{left_of, right_of, tag_of}
 use Rattle.table.specs.Refusal.{occupied}
-use borrow.Author.Rules.{rules}
 use Rattle.chains.proofs.in_use.Goals as goal
 
 -- Left and right are zero: the tag decides.

@@ -1,7 +1,6 @@
 -- `marked` answers whether a record is marked.
 use Prim.Native.Nat.{ℕ}
 use lib.ListN.{get_or-eq_default}
-use borrow.Author.Rules.{rules}
 use Rattle.chains.proofs.marked.Goals as goal
 
 pub returns-then-mark-k : goal.returns-then-mark-k

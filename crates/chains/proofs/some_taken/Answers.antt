@@ -1,15 +1,8 @@
 -- `some_taken` answers whether a listed record is on the chain or in use. The loop keeps that none of those passed is.
-use mathlib.Core.Path.{◌≡◌, sym, ◌∙◌}
-use mathlib.Core.Bool.{Bool, false, ◌||◌, or-true}
-use mathlib.Core.List.{List}
-use Prim.Native.Nat.{ℕ, ◌-◌, ◌≤◌, ◌<◌}
+use mathlib.Core.Path.{sym, ◌∙◌}
+use mathlib.Core.Bool.{or-true}
 use native.Mathlib.Omega.{arith}
 use borrow.Author.Count.{below_none, below_more}
-use borrow.Author.Rules.{rules}
-use lib.ListN.{get_or}
-use Rattle.table.specs.Lists.{member}
-use Rattle.table.specs.Table.{chain}
-use Rattle.table.specs.Refusal.{occupied}
 use Rattle.chains.proofs.Scan.{free_record, listed_inside, scan_hit, scan_none, marked_by}
 use Rattle.chains.proofs.some_taken.Invariants.{taken}
 use Rattle.chains.proofs.some_taken.Goals as goal

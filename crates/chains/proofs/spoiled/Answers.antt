@@ -6,7 +6,6 @@ use Rattle.table.specs.Refusal.{bad_free}
 use Rattle.chains.proofs.Zeros.{blank}
 use Rattle.table.proofs.Causes.{none_free}
 use Rattle.chains.proofs.Walking.{walked_breaks, walked_listed, from_right}
-use borrow.Author.Rules.{rules}
 use Rattle.chains.proofs.spoiled.Goals as goal
 
 pub returns-then-first-eq0 : goal.returns-then-first-eq0

@@ -1,8 +1,6 @@
 -- `walk` lists the records from one on and marks them, or is broken off. The loop keeps `Walk`.
-use Prim.Native.Nat.{◌/◌, ◌-◌}
 use native.Mathlib.Omega.{arith}
-use lib.ListN.{length}
-use Rattle.chains.proofs.Walking.{Walk, walk_start, walk_end, walk_beyond, walk_twice, walk_step}
+use Rattle.chains.proofs.Walking.{walk_start, walk_end, walk_beyond, walk_twice, walk_step}
 use Rattle.chains.proofs.walk.Goals as goal
 
 pub bounds-mark-0 : goal.bounds-mark-0

@@ -2,7 +2,6 @@
 use native.Mathlib.Omega.{arith}
 use Rattle.table.specs.Writing.{Bytes}
 use Rattle.changes.proofs.Running.{refused, undone}
-use borrow.Author.Rules.{rules}
 use Rattle.changes.proofs.hang_and_cut.Goals as goal
 
 pub returns-in-Leaf : goal.returns-in-Leaf

@@ -1,7 +1,6 @@
 -- `hold_and_hang` meets its contract.
 use Rattle.hanging.proofs.Answering.{refused_kept}
 use Rattle.changes.proofs.Running.{halves}
-use borrow.Author.Rules.{rules}
 use Rattle.changes.proofs.hold_and_hang.Goals as goal
 
 pub returns-in-Leaf : goal.returns-in-Leaf

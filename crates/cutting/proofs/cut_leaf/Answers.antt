@@ -1,12 +1,7 @@
 -- `cut_leaf` writes what cutting writes: where each word is written it is known that it lies in the table and fits. Rests on Answering.
-use mathlib.Core.Path.{◌≡◌, ◌∙◌}
-use Prim.Native.Nat.{◌≤◌, ◌<◌}
 use native.Mathlib.Omega.{arith}
-use lib.ListN.{length}
-use Rattle.table.specs.Table.{records}
 use Rattle.table.proofs.Accepted.{records_bounds}
 use Rattle.cutting.proofs.Answering.{cut_words}
-use borrow.Author.Rules.{rules}
 use Rattle.cutting.proofs.cut_leaf.Goals as goal
 
 -- What is read lies in the table, of which there is something and not much, and fits a word; a word that is written leaves the table as long as it was.

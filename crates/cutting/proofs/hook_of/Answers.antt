@@ -4,7 +4,6 @@ use Prim.Native.Nat.{ℕ, ◌<◌}
 use native.Mathlib.Omega.{arith}
 use Rattle.table.proofs.Accepted.{records_bounds}
 use Rattle.cutting.proofs.Hooks.{hook_right, hook_left, hook_head, hook_own}
-use borrow.Author.Rules.{rules}
 use Rattle.cutting.proofs.hook_of.Goals as goal
 
 -- The record h and its word s, from what the law says of the holder q and the hook j.

@@ -6,7 +6,7 @@ use Prim.Native.Nat.{ℕ}
 use native.Mathlib.Omega.{arith}
 use lib.Dec.{ltb}
 use lib.ListN.{length}
-use borrow.Author.Tests.{eq-eqb, ne_eqb, not-true, not-false}
+use borrow.Author.Tests.{eq-eqb, ne_eqb}
 use Rattle.table.specs.Lists.{member}
 use Rattle.table.specs.Table.{left_of, right_of, root_of, chain as chainOf}
 use Rattle.table.proofs.Lists.{T_true}
@@ -15,7 +15,6 @@ use Rattle.records.proofs.Nodes.{chained_below}
 use Rattle.records.proofs.Finding.{on_chain}
 use Rattle.cutting.specs.Cutting.{still_root, no_leaf}
 use Rattle.cutting.proofs.Places.{no_root}
-use borrow.Author.Rules.{rules}
 use Rattle.cutting.proofs.no_leaf.Goals as goal
 
 -- On the chain and without children: the root decides.

@@ -1,12 +1,7 @@
 -- `hang_first` writes what hanging writes: where each word is written it is known that it lies in the table and fits. Rests on Places and Answering.
-use mathlib.Core.Path.{◌≡◌, ◌∙◌}
-use Prim.Native.Nat.{◌≤◌, ◌<◌}
 use native.Mathlib.Omega.{arith}
-use lib.ListN.{length}
-use Rattle.table.specs.Table.{records}
 use Rattle.hanging.proofs.Places.{hang_place, hang_within}
 use Rattle.hanging.proofs.Answering.{hung_words}
-use borrow.Author.Rules.{rules}
 use Rattle.hanging.proofs.hang_first.Goals as goal
 
 pub right-leaf-requires : goal.right-leaf-requires

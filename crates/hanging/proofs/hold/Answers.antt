@@ -2,7 +2,6 @@
 use mathlib.Core.Path.{sym, ◌∙◌}
 use Rattle.hanging.proofs.Places.{hang_within}
 use Rattle.hanging.proofs.Answering.{says_leaf, says_refused}
-use borrow.Author.Rules.{rules}
 use Rattle.hanging.proofs.hold.Goals as goal
 
 pub returns-then-cause-ne0 : goal.returns-then-cause-ne0

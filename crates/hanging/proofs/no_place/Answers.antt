@@ -5,7 +5,7 @@ use mathlib.Core.List.{List}
 use Prim.Native.Nat.{ℕ, ◌+◌, ◌≤◌}
 use native.Mathlib.Omega.{arith}
 use lib.Dec.{eqb}
-use borrow.Author.Tests.{eq-eqb, ne_eqb, lt-ltb, le-ltb, not-true, not-false}
+use borrow.Author.Tests.{eq-eqb, ne_eqb, lt-ltb, le-ltb}
 use Rattle.table.specs.Lists.{member}
 use Rattle.table.specs.Table.{word, next_of, left_of, chain as chainOf}
 use Rattle.table.specs.Refusal.{is_empty}
@@ -14,7 +14,6 @@ use Rattle.table.proofs.Accepted.{records_bounds}
 use Rattle.records.proofs.Nodes.{chained_below}
 use Rattle.records.proofs.Finding.{on_chain}
 use Rattle.hanging.specs.Hanging.{slot, no_place}
-use borrow.Author.Rules.{rules}
 use Rattle.hanging.proofs.no_place.Goals as goal
 
 -- Of the head without a next, the root decides; of a chained parent, the link.

@@ -2,7 +2,6 @@
 use native.Mathlib.Omega.{arith}
 use borrow.Author.Tests.{eq-eqb, ne_eqb}
 use Rattle.hanging.specs.Hanging.{slot}
-use borrow.Author.Rules.{rules}
 use Rattle.hanging.proofs.slot_of.Goals as goal
 
 pub returns-then-parent-eq0 : goal.returns-then-parent-eq0

@@ -2,7 +2,6 @@
 use mathlib.Core.Path.{◌≡◌, ◌∙◌}
 use mathlib.Core.List.{List}
 use Prim.Native.Nat.{ℕ}
-use borrow.Author.Rules.{rules}
 use Rattle.table.specs.Table.{left_of, right_of}
 use Rattle.table.specs.Writing.{with_word}
 use Rattle.mirror.specs.Exchanged.{exchange_links}

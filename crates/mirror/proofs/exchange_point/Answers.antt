@@ -4,7 +4,6 @@ use mathlib.Core.List.{List}
 use Prim.Native.Nat.{ℕ}
 use Rattle.segment.specs.declared.Point.{Point}
 use Rattle.placements.specs.Placements.{point_of, with_point}
-use borrow.Author.Rules.{rules}
 use Rattle.mirror.specs.Exchanged.{exchange_point}
 use Rattle.mirror.proofs.exchange_point.Goals as goal
 

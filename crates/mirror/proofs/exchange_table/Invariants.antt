@@ -1,9 +1,7 @@
 -- `exchange_table` meets its contract. The invariant of its loop: i records are done.
 use Prim.Native.Nat.{◌-◌}
-use native.Mathlib.Omega.{arith}
-use borrow.Author.Rules.{rules}
 use Rattle.mirror.specs.Exchanged.{exchange_links}
-use Rattle.mirror.proofs.Loops.{Done, listed, done_none, done_more, done_all}
+use Rattle.mirror.proofs.Loops.{Done}
 use Rattle.mirror.proofs.exchange_table.Given as goal
 
 abbrev pub invariant-loop-i : goal.invariant-loop-i

@@ -1,7 +1,6 @@
 -- `above`: by the two cases.
 use mathlib.Core.Path.{sym, ◌∙◌}
 use borrow.Author.Tests.{eq-eqb, ne_eqb}
-use borrow.Author.Rules.{rules}
 use Rattle.parents.proofs.above.Goals as goal
 
 pub returns-then-k-eq0 : goal.returns-then-k-eq0

@@ -6,7 +6,6 @@ use Rattle.records.proofs.Form.{shaped}
 use Rattle.chains.proofs.Zeros.{blank}
 use Rattle.chains.proofs.Walking.{walked_breaks, walked_listed, walked_marked, from_next}
 use Rattle.records.proofs.Answer.{refused_form, refused_chain, examined}
-use borrow.Author.Rules.{rules}
 use Rattle.records.proofs.examine.Goals as goal
 
 pub returns-then-unfit-ne0 : goal.returns-then-unfit-ne0

@@ -3,7 +3,6 @@ use mathlib.Core.Path.{◌≡◌, sym, ◌∙◌}
 use mathlib.Core.Bool.{false}
 use native.Mathlib.Omega.{arith}
 use Rattle.table.specs.Refusal.{bad_free}
-use borrow.Author.Rules.{rules}
 use Rattle.records.proofs.misled.Goals as goal
 
 pub spoiled-requires : goal.spoiled-requires

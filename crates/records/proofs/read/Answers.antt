@@ -4,7 +4,6 @@ use Rattle.table.proofs.Accepted.{refusal_none}
 use Rattle.trees.proofs.Rooting.{unfilled}
 use Rattle.trees.proofs.Reached.{filled_chain}
 use Rattle.records.proofs.Answer.{sized, no_nodes}
-use borrow.Author.Rules.{rules}
 use Rattle.records.proofs.read.Goals as goal
 
 pub trace-reading-requires : goal.trace-reading-requires

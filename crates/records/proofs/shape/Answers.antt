@@ -3,7 +3,6 @@ use mathlib.Core.Path.{sym, ◌∙◌}
 use Rattle.records.proofs.Form.{tag_given, well_formed}
 use borrow.Author.Tests.{eq-eqb, ne_eqb, lt-ltb}
 use Rattle.table.specs.Refusal.{bad_length}
-use borrow.Author.Rules.{rules}
 use Rattle.records.proofs.shape.Goals as goal
 
 pub returns-then-bytes-eq0 : goal.returns-then-bytes-eq0

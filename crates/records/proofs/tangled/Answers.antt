@@ -1,6 +1,5 @@
 -- `tangled` answers causes 8, 4 and 5, and lists the nodes.
 use Rattle.records.proofs.Answer.{early, unharmed, tree, treeless}
-use borrow.Author.Rules.{rules}
 use Rattle.records.proofs.tangled.Goals as goal
 
 pub misled-cause-requires : goal.misled-cause-requires

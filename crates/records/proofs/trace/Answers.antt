@@ -1,6 +1,5 @@
 -- `trace` answers the refusal, and lists an accepted table.
 use Rattle.records.proofs.Answer.{refused_bytes, refused_placements, traced}
-use borrow.Author.Rules.{rules}
 use Rattle.records.proofs.trace.Goals as goal
 
 pub returns-then-reading-ne0 : goal.returns-then-reading-ne0

@@ -1,5 +1,4 @@
 -- `segment::astride` meets its contract.
-use borrow.Author.Rules.{rules}
 use mathlib.Core.Path.{refl, ◌∙◌}
 use lib.Signed.{le_z}
 use Rattle.segment.proofs.Range.{given}

@@ -1,5 +1,4 @@
 -- `segment::crosses` meets its contract.
-use borrow.Author.Rules.{rules}
 use mathlib.Core.Path.{refl, ◌∙◌}
 use Rattle.segment.proofs.Crossing.{crosses_decides}
 use Rattle.segment.proofs.Answers.{answer, and_skip, and_stop, crosses_by}

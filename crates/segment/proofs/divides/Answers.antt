@@ -1,5 +1,4 @@
 -- `segment::divides` meets its contract.
-use borrow.Author.Rules.{rules}
 use mathlib.Core.Path.{refl, ◌∙◌}
 use lib.Signed.{lt_z}
 use Rattle.segment.proofs.Range.{given}

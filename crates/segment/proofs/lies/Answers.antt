@@ -1,5 +1,4 @@
 -- `segment::lies` meets its contract: the node is a segment of one point.
-use borrow.Author.Rules.{rules}
 use mathlib.Core.Logic.Iff
 use Rattle.segment.proofs.SharedPoint.{share→lies, lies→share}
 use Rattle.segment.proofs.lies.Goals as goal

@@ -1,6 +1,4 @@
 -- `segment::meets` meets its contract.
-use borrow.Author.Rules.{rules}
-use borrow.Author.Tests.{not-true, not-false}
 use mathlib.Core.Path.{refl, ◌∙◌}
 use mathlib.Core.Bool.{false}
 use Rattle.segment.proofs.SharedPoint.{meets_decides_share}

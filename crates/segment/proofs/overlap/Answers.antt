@@ -1,5 +1,4 @@
 -- `segment::overlap` meets its contract.
-use borrow.Author.Rules.{rules}
 use borrow.Author.Tests.{le-leb, lt-leb}
 use mathlib.Core.Path.{refl, ◌∙◌}
 use Rattle.segment.proofs.Answers.{and_skip, and_stop, overlap_by}

@@ -1,16 +1,10 @@
 -- `grow` answers whether cause 5 does not hold, and then lists the nodes.
-use mathlib.Core.Path.{◌≡◌, sym, ◌∙◌}
-use mathlib.Core.Bool.{true}
+use mathlib.Core.Path.{sym, ◌∙◌}
 use native.Mathlib.Omega.{arith}
-use borrow.Author.Tests.{not-true, not-false}
-use Rattle.table.specs.Lists.{member}
-use Rattle.table.specs.Table.{chain as chainOf}
-use Rattle.trees.specs.inner.Steps.{Rooted}
 use Rattle.table.proofs.Causes.{sound_within}
 use Rattle.table.proofs.Lists.{T_true}
 use Rattle.chains.proofs.Scan.{marked_by}
 use Rattle.trees.proofs.Rooting.{rootless, grown_bad, grown, off_chain, ill_named, rooted}
-use borrow.Author.Rules.{rules}
 use Rattle.trees.proofs.grow.Goals as goal
 
 pub returns-then-root-eq0 : goal.returns-then-root-eq0

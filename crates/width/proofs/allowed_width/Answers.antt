@@ -1,5 +1,4 @@
 -- `width::allowed_width` meets its contract. Assumes nothing.
-use borrow.Author.Rules.{rules}
 use borrow.Author.Tests.{eq-eqb, ne_eqb, lt-ltb, le-ltb}
 use Rattle.width.specs.Allowed.{allowed_width}
 use Rattle.width.proofs.allowed_width.Goals as goal

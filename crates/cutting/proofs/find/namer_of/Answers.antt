@@ -1,11 +1,7 @@
 -- `namer_of` answers the chained record whose word names a record. The loop keeps that none of those passed does.
-use mathlib.Core.Path.{◌≡◌, sym, ◌∙◌}
-use Prim.Native.Nat.{ℕ, ◌-◌, ◌≤◌, ◌<◌}
+use mathlib.Core.Path.{sym, ◌∙◌}
 use native.Mathlib.Omega.{arith}
 use borrow.Author.Count.{below_none, below_more}
-use borrow.Author.Rules.{rules}
-use lib.ListN.{get_or}
-use Rattle.table.specs.Table.{word}
 use Rattle.table.proofs.Accepted.{records_bounds}
 use Rattle.records.proofs.Nodes.{node_below}
 use Rattle.cutting.proofs.Finding.{namer_here, namer_none}

@@ -1,5 +1,4 @@
 -- `along`: no line, the line sought, a line passed. Rests on Passing.
-use borrow.Author.Rules.{rules}
 use Rattle.pen.proofs.Passing.{no_line, found, passed}
 use Rattle.pen.proofs.lines.along.Goals as goal
 

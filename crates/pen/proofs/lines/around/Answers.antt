@@ -1,5 +1,4 @@
 -- `around`: the line to the left child, then the line to the right one. Rests on Passing.
-use borrow.Author.Rules.{rules}
 use Rattle.pen.proofs.Passing.{on_first, on_second}
 use Rattle.pen.proofs.lines.around.Goals as goal
 

@@ -1,18 +1,9 @@
 -- What is left of the number from here gives the same line as the number from the start. Rests on Passing.
-use mathlib.Core.Path.{◌≡◌, sym, ap, ◌∙◌}
-use mathlib.Core.List.{List}
-use Prim.Native.Nat.{◌≤◌, ◌+◌, ◌-◌}
-use native.Mathlib.Omega.{arith}
+use mathlib.Core.Path.{◌≡◌}
+use Prim.Native.Nat.{◌≤◌, ◌-◌}
 use lib.ListN.{drop}
-use borrow.Author.Rules.{rules}
 use Rattle.table.specs.Table.{chain as chainOf}
-use Rattle.records.proofs.Scan.{taken_at}
-use Rattle.records.proofs.Nodes.{node_below}
-use Rattle.pen.specs.declared.lines.Ends.{Ends}
-use Rattle.pen.specs.declared.lines.Step.{Step}
 use Rattle.pen.specs.Lines.{lines_from, lines, line_at}
-use Rattle.pen.specs.inner.Steps.{after}
-use Rattle.pen.proofs.Passing.{past_last, moves}
 use Rattle.pen.proofs.lines.line.Given as goal
 
 abbrev pub invariant-loop-i : goal.invariant-loop-i

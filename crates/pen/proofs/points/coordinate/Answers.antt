@@ -1,7 +1,6 @@
 -- The quarter of the product.
 use mathlib.Core.Path.{ap, ◌∙◌}
 use Prim.Native.Nat.{ℕ}
-use borrow.Author.Rules.{rules}
 use Rattle.pen.specs.Quarter.{quarter_of}
 use Rattle.pen.proofs.points.coordinate.Goals as goal
 

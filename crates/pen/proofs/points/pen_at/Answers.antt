@@ -1,6 +1,5 @@
 -- `pen_at`: the pen point of the record's column and row.
 use mathlib.Core.Path.{ap, ◌∙◌}
-use borrow.Author.Rules.{rules}
 use Rattle.segment.specs.declared.Point.{Point}
 use Rattle.pen.specs.declared.points.PenPoint.{PenPoint}
 use Rattle.pen.specs.Quarter.{quarter_of}

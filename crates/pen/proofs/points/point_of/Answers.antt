@@ -1,5 +1,4 @@
 -- `point_of`: a coordinate each of the column and of the row.
-use borrow.Author.Rules.{rules}
 use Rattle.pen.proofs.points.point_of.Goals as goal
 
 pub returns : goal.returns

@@ -1,7 +1,6 @@
 -- A number below 2^24 is a float exactly, and so is its quarter. Rests on Exact.
 use native.Mathlib.Omega.{arith}
 use lib.Ieee.{of_bits}
-use borrow.Author.Rules.{rules}
 use Rattle.pen.proofs.Exact.{quartered}
 use Rattle.pen.proofs.points.quarter.Goals as goal
 

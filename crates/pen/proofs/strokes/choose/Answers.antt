@@ -1,7 +1,6 @@
 -- `choose`: no line, an even number, an odd one.
 use mathlib.Core.Path.{ap}
 use borrow.Author.Tests.{eq-eqb, ne_eqb}
-use borrow.Author.Rules.{rules}
 use Rattle.pen.specs.declared.strokes.Stroke.TheVariants.{Lift, Draw}
 use Rattle.pen.proofs.strokes.choose.Goals as goal
 

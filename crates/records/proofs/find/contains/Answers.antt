@@ -1,10 +1,6 @@
 -- `contains` answers whether a number is among the first of a list. The loop keeps that it is not among those passed.
-use Prim.Native.Nat.{ℕ, ◌-◌, ◌≤◌, ◌<◌}
-use mathlib.Core.Path.{◌≡◌}
 use native.Mathlib.Omega.{arith}
 use borrow.Author.Count.{below_none, below_more}
-use borrow.Author.Rules.{rules}
-use lib.ListN.{get_or}
 use Rattle.records.proofs.Finding.{listed, unlisted}
 use Rattle.records.proofs.find.contains.Goals as goal
 

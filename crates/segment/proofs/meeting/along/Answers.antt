@@ -1,5 +1,4 @@
 -- `segment::meeting::along` meets its contract.
-use borrow.Author.Rules.{rules}
 use mathlib.Core.Logic.{inl, inr, ⊎_elim}
 use mathlib.Core.Path.{ap, sym, subst, ◌∙◌}
 use lib.Dec.{T}

@@ -1,5 +1,4 @@
 -- `segment::meeting::compare` meets its contract.
-use borrow.Author.Rules.{rules}
 use Rattle.segment.proofs.Alike.{common_PR, common_PS, common_QR, common_QS}
 use Rattle.segment.proofs.FourKinds.{alike_kind}
 use Rattle.segment.proofs.Answers.{holds, fails}

@@ -1,6 +1,4 @@
 -- `segment::meeting::compare_apart` meets its contract.
-use borrow.Author.Rules.{rules}
-use borrow.Author.Tests.{not-true, not-false}
 use Rattle.segment.proofs.Clashing.{no_common}
 use Rattle.segment.proofs.FourKinds.{touches_by}
 use Rattle.segment.proofs.Answers.{holds, fails}

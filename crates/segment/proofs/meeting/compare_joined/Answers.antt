@@ -1,5 +1,4 @@
 -- `segment::meeting::compare_joined` meets its contract.
-use borrow.Author.Rules.{rules}
 use Rattle.segment.proofs.FourKinds.{joined_touching, joined_end}
 use Rattle.segment.proofs.Answers.{holds, fails}
 use Rattle.segment.proofs.meeting.compare_joined.Goals as goal

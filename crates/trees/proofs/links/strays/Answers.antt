@@ -1,17 +1,13 @@
 -- `strays` answers cause 4, and counts the links. The loop keeps that no record passed has a stray link, and the counts of the links passed.
 use mathlib.Core.Path.{◌≡◌, sym, ◌∙◌}
-use mathlib.Core.Bool.{Bool, true, false, ◌||◌, or-true, true≢false}
-use mathlib.Core.List.{List}
-use Prim.Native.Nat.{ℕ, ◌-◌, ◌≤◌, ◌<◌}
+use mathlib.Core.Bool.{true, false, or-true, true≢false}
 use native.Mathlib.Omega.{arith}
 use borrow.Author.Count.{below_none, below_more}
-use borrow.Author.Rules.{rules}
-use lib.ListN.{get_or, take}
-use Rattle.table.specs.Table.{left_of, right_of}
+use lib.ListN.{take}
 use Rattle.table.specs.Trees.{links}
 use Rattle.table.specs.Refusal.{stray, bad_links}
 use Rattle.chains.proofs.Scan.{listed_inside, scan_hit, scan_none, stray_by}
-use Rattle.trees.proofs.Tally.{Counts, counts_none, counts_few, counts_few_more, counts_more, links_few, links_more, counted_all}
+use Rattle.trees.proofs.Tally.{counts_none, counts_few, counts_few_more, counts_more, links_few, links_more, counted_all}
 use Rattle.std.proofs.lemmas.Bool.{not_from_true, not_from_false}
 use Rattle.trees.proofs.links.strays.Invariants.{strayed}
 use Rattle.trees.proofs.links.strays.Goals as goal

@@ -1,6 +1,5 @@
 -- `add_root` puts a record at the end of the list, if it is a root other than the head's.
 use Rattle.trees.proofs.Roots.{left_out, put_last, unnamed_root, unnamed_not, unnamed_other}
-use borrow.Author.Rules.{rules}
 use Rattle.trees.proofs.naming.add_root.Goals as goal
 
 pub returns-then-k-root : goal.returns-then-k-root

@@ -1,8 +1,7 @@
 -- `list_others` lists the roots behind the head's. The loop keeps `Noting`.
 use mathlib.Core.Path.{sym, ◌∙◌}
-use Prim.Native.Nat.{◌-◌}
 use native.Mathlib.Omega.{arith}
-use Rattle.trees.proofs.Roots.{Noting, nodes_few, note_start, note_twice, note_step, note_end}
+use Rattle.trees.proofs.Roots.{nodes_few, note_start, note_twice, note_step, note_end}
 use Rattle.chains.proofs.Scan.{listed_inside}
 use Rattle.trees.proofs.naming.list_others.Goals as goal
 

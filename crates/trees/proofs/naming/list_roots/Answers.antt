@@ -4,7 +4,6 @@ use native.Mathlib.Omega.{arith}
 use lib.ListN.{length-set}
 use lib.Seq.{take-suc-set}
 use Rattle.trees.proofs.Roots.{note_named}
-use borrow.Author.Rules.{rules}
 use Rattle.trees.proofs.naming.list_roots.Goals as goal
 
 pub returns-then-tally-root-ne0 : goal.returns-then-tally-root-ne0

@@ -1,11 +1,8 @@
 -- `measure` fills the sizes. The loop keeps those of the nodes passed.
 use mathlib.Core.Path.{◌≡◌}
-use Prim.Native.Nat.{◌+◌, ◌-◌, ◌≤◌, ◌<◌}
+use Prim.Native.Nat.{◌-◌}
 use native.Mathlib.Omega.{arith}
-use lib.ListN.{get_or, take, drop}
 use Rattle.table.specs.Table.{left, right}
-use Rattle.table.specs.Tree.{size, tree_at}
-use Rattle.trees.specs.inner.Steps.{Filled}
 use Rattle.trees.proofs.Sizes.{fill_back, fill_none, fill_inside, fill_few, fill_sum, fill_step}
 use Rattle.trees.proofs.reach.measure.Goals as goal
 

@@ -1,12 +1,7 @@
 -- `measure` fills the sizes. The loop keeps those of the nodes passed.
-use mathlib.Core.Path.{◌≡◌}
-use Prim.Native.Nat.{◌+◌, ◌-◌, ◌≤◌, ◌<◌}
-use native.Mathlib.Omega.{arith}
-use lib.ListN.{get_or, take, drop}
-use Rattle.table.specs.Table.{left, right}
-use Rattle.table.specs.Tree.{size, tree_at}
+use Prim.Native.Nat.{◌≤◌}
+use lib.ListN.{take, drop}
 use Rattle.trees.specs.inner.Steps.{Filled}
-use Rattle.trees.proofs.Sizes.{fill_back, fill_none, fill_inside, fill_few, fill_sum, fill_step}
 use Rattle.trees.proofs.reach.measure.Given as goal
 
 abbrev pub invariant-loop-i : goal.invariant-loop-i

@@ -6,7 +6,6 @@ use native.Mathlib.Omega.{arith}
 use lib.ListN.{length}
 use lib.Seq.{take-suc-set}
 use Rattle.trees.proofs.Order.{present_none, present_one}
-use borrow.Author.Rules.{rules}
 use Rattle.trees.proofs.reach.push.Goals as goal
 
 pub returns-then-link-eq0 : goal.returns-then-link-eq0

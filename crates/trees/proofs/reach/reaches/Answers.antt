@@ -1,7 +1,6 @@
 -- `reaches` answers whether all nodes are reached, and then lists them.
 use mathlib.Core.Path.{◌∙◌}
 use Rattle.trees.proofs.Reached.{ordered}
-use borrow.Author.Rules.{rules}
 use Rattle.trees.proofs.reach.reaches.Goals as goal
 
 pub returns : goal.returns
