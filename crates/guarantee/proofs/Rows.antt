@@ -57,8 +57,8 @@ module _ (t p : List ℕ) (e : (drawn_of t p).refusal ≡ 0) where
 
   pub under_ruler : UnderRuler t p
   under_ruler k b U m c d o =
-      ruler_trees (point_of (placed_in t p)) (trees t) 0 (agrees t p none_refused) (nodes_distinct t ok) (tree_at t k) (tree_of k m) b ((nodes_chain t ok b).1 c) d
-      o
+      ruler_trees (point_of (placed_in t p)) (trees t) 0 (agrees t p none_refused) (nodes_distinct t ok) (tree_at t k)
+      (tree_of k m) b ((nodes_chain t ok b).1 c) d o
 
   pub no_gaps : NoGaps t p
   unfolding plan_of

@@ -20,7 +20,8 @@ bounds-order-i c =
 
 pub prepare-requires : goal.prepare-requires
 prepare-requires c =
-    let chained = stack_chained _ c.requires.table_value c.requires.chained c.loop-unplaced.invariant.1.1 (omega (arith, c.loop-unplaced-test.true)) _ c.requires.led in
+    let chained = stack_chained _ c.requires.table_value c.requires.chained
+    c.loop-unplaced.invariant.1.1 (omega (arith, c.loop-unplaced-test.true)) _ c.requires.led in
     record {
       table_value = c.requires.table_value;
       chained = chained;
@@ -38,13 +39,18 @@ draw_tree-top-requires c =
         long_widest = c.prepare.auto.widest ∙ c.loop-unplaced.invariant.1.0;
         enough = omega (arith, c.requires.table_in_bounds, c.loop-unplaced.invariant.1.1.long);
       };
-      drawable = stack_drawable _ c.requires.table_value c.requires.chained c.loop-unplaced.invariant.1.1 (omega (arith, c.loop-unplaced-test.true)) _ c.requires.led _ _ _ (omega arith)
+      drawable = stack_drawable _ c.requires.table_value c.requires.chained
+          c.loop-unplaced.invariant.1.1 (omega (arith, c.loop-unplaced-test.true)) _ c.requires.led _ _ _ (omega arith)
           c.prepare.ensures.prepared;
     }
 
 pub offset_bounds-sizes-root : goal.offset_bounds-sizes-root
 offset_bounds-sizes-root c =
-    omega (arith, stack_record _ c.requires.table_value c.requires.chained c.loop-unplaced.invariant.1.1 (omega (arith, c.loop-unplaced-test.true)) _ c.requires.led)
+    omega (
+      arith,
+      stack_record _ c.requires.table_value c.requires.chained
+          c.loop-unplaced.invariant.1.1 (omega (arith, c.loop-unplaced-test.true)) _ c.requires.led,
+    )
 
 pub bounds-sizes-root : goal.bounds-sizes-root
 bounds-sizes-root c =
@@ -56,7 +62,8 @@ bounds-sizes-root c =
 
 pub overflow_sub-unplaced : goal.overflow_sub-unplaced
 overflow_sub-unplaced c =
-    (stack_taken _ c.requires.table_value c.requires.chained c.loop-unplaced.invariant.1.1 (omega (arith, c.loop-unplaced-test.true)) _ c.requires.led _ c.requires.sized).1
+    (stack_taken _ c.requires.table_value c.requires.chained
+    c.loop-unplaced.invariant.1.1 (omega (arith, c.loop-unplaced-test.true)) _ c.requires.led _ c.requires.sized).1
 
 pub overflow_add-i : goal.overflow_add-i
 overflow_add-i c =
@@ -76,7 +83,8 @@ loop-unplaced-preserved c = (
   c.prepare.auto.roles ∙ c.loop-unplaced.invariant.0,
   (
     c.prepare.auto.widest ∙ c.loop-unplaced.invariant.1.0,
-    stack_step _ c.requires.table_value c.requires.chained c.loop-unplaced.invariant.1.1 (omega (arith, c.loop-unplaced-test.true)) _ c.requires.led _ c.requires.sized _ _ _ _
+    stack_step _ c.requires.table_value c.requires.chained
+        c.loop-unplaced.invariant.1.1 (omega (arith, c.loop-unplaced-test.true)) _ c.requires.led _ c.requires.sized _ _ _ _
         (c.most-width.ensures ∙ ap (max c.loop-unplaced.width) c.prepare.ensures.wide) c.draw_tree-top.ensures refl
         c.draw_tree-top.auto.points,
   ),

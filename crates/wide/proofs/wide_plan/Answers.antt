@@ -31,14 +31,24 @@ slice_bounds-mirrored-end-2 c =
 
 pub slice_bounds-plan_of-end : goal.slice_bounds-plan_of-end
 slice_bounds-plan_of-end c =
-    let room = front_room _ c.exchange_table.new.table _ c.exchange_table.auto.table (omega (arith, c.copy.auto.buffer, records_bounds _ c.requires.table_value)) in
+    let room = front_room _ c.exchange_table.new.table _ c.exchange_table.auto.table
+    (omega (arith, c.copy.auto.buffer, records_bounds _ c.requires.table_value)) in
     sym (length-take-le _ _ room)
 
 pub plan_of-plan-requires : goal.plan_of-plan-requires
 plan_of-plan-requires c =
     let e = mirrored_copy _ _ _ _ (copied_front _ _ _ c.copy.ensures) c.requires.chain_len.1 c.exchange_table.ensures in
-    let r = mirrored_asked _ _ _ _ _ _ _ c.requires.table_value e c.requires.chained c.requires.sized c.requires.led refl c.requires.table_in_bounds c.requires.nodes_value in
-    record { table_value = r.0; chained = r.1.0; sized = r.1.1.0; led = r.1.1.1.0; roles_len = r.1.1.1.1.0; table_in_bounds = r.1.1.1.1.1.0; nodes_value = r.1.1.1.1.1.1 }
+    let r = mirrored_asked _ _ _ _ _ _ _ c.requires.table_value e c.requires.chained c.requires.sized c.requires.led refl
+    c.requires.table_in_bounds c.requires.nodes_value in
+    record {
+      table_value = r.0;
+      chained = r.1.0;
+      sized = r.1.1.0;
+      led = r.1.1.1.0;
+      roles_len = r.1.1.1.1.0;
+      table_in_bounds = r.1.1.1.1.1.0;
+      nodes_value = r.1.1.1.1.1.1;
+    }
 
 pub exchange_placements-requires : goal.exchange_placements-requires
 exchange_placements-requires c =

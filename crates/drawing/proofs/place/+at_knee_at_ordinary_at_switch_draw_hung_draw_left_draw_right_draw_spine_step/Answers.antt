@@ -9,9 +9,9 @@ use Rattle.drawing.proofs.Walking.{size_none, entry_within, given_kept, drawable
 use Rattle.drawing.proofs.Walking.{edge_knee, drawable_far, after_far, after_near}
 use Rattle.drawing.proofs.Walking.{column_ordinary, rows_at_ordinary, drawable_ordinary, after_ordinary}
 use Rattle.drawing.proofs.Walking.{column_switch, widest_at_switch, rows_at_switch, drawable_switch, drawable_pending, next_role, next_below, after_switch}
-use Rattle.drawing.proofs.Walking.{knee_is, ordinary_is, stepped_for}
+use Rattle.drawing.proofs.Walking.{knee_is, ordinary_is, going_as, role_below, stepped_for}
 use Rattle.drawing.proofs.Starting.{no_subtree, column_drawn, drawable_side, drawn_side}
-use Rattle.drawing.proofs.Starting.{root_below, going_start, drawn_start, drawable_end, walked_start, walked_end}
+use Rattle.drawing.proofs.Starting.{root_below, going_start, drawn_start, drawable_end, walked_start, walked_on, walked_end}
 use Rattle.drawing.proofs.place.+at_knee_at_ordinary_at_switch_draw_hung_draw_left_draw_right_draw_spine_step.Goals as goal
 
 -- ---- at_knee
@@ -206,6 +206,11 @@ draw_spine-loop-w-init t c =
     (going_start _ _ _ sound c.args.mirrored _ _ _ c.requires.drawable c.requires.root_nonzero hand.result hand.ensures)
     c.requires.root_nonzero refl
 
+pub draw_spine-loop-w-preserved : goal.draw_spine-loop-w-preserved
+draw_spine-loop-w-preserved t c =
+    let l = c.loop-w.invariant in
+    walked_on _ _ _ _ _ _ _ _ _ l (c.step-w.ensures _ l.going) c.step-w.auto.points
+
 pub draw_spine-overflow_add-row : goal.draw_spine-overflow_add-row
 draw_spine-overflow_add-row t c =
     omega (arith, (drawable_end _ _ _ _ c.loop-w-test.false _ c.loop-w.invariant.going).rows)
@@ -224,6 +229,16 @@ draw_spine-returns t c =
     _ _ _ (walked_end _ _ _ _ _ _ _ _ _ c.loop-w.invariant c.loop-w-test.false c.draw_hung.ensures)
 
 -- ---- step
+
+pub step-role_at-role-requires-clause-at_bound : goal.step-role_at-role-requires-clause-at_bound
+step-role_at-role-requires-clause-at_bound t c = role_below _ _ _ _ _ _ _ c.fork_at-fork.ensures _ c.requires.going.1
+
+pub step-at_knee-requires : goal.step-at_knee-requires
+step-at_knee-requires t c =
+    let role = c.role_at-role in
+    let is = knee_is (role_of role.result) (sym c.is_knee.ensures ∙ c.if-is_knee.true) in
+    let going = going_as _ _ _ _ _ _ _ c.fork_at-fork.ensures role.result knee role.ensures is c.requires.going in
+    (omega (arith, c.decreases), (c.requires.given, (going, c.fork_at-fork.ensures)))
 
 pub step-returns-then-is_knee : goal.step-returns-then-is_knee
 step-returns-then-is_knee t c =
