@@ -11,7 +11,7 @@ use Rattle.table.specs.Trees.{roots, trees}
 use Rattle.table.specs.Refusal.{refusal}
 use Rattle.before.specs.Tables.{refusal_before, refusal_first}
 use Rattle.before.proofs.Tables.{accepted_before, accepted_first}
-use Rattle.layout.specs.Layout.{Layout, width, height}
+use Rattle.layout.specs.Layout.{Layout}
 use Rattle.layout.specs.Drawing.{draw}
 use Rattle.layout.specs.Trees.{draw_trees, width_of, height_of}
 use Rattle.layout.proofs.Stacked.{one_tree, width_of_one, height_of_one}

@@ -8,7 +8,7 @@ use Rattle.table.specs.Table.{Side, left, right}
 use Rattle.table.specs.Lists.{count}
 use Rattle.table.specs.Tree.{Tree, size, nodes}
 use Rattle.layout.specs.Layout.{Layout, blank, placed, width}
-use Rattle.layout.specs.Spine.{SpineNode, hangs, Role, knee, ordinary, switch, facing}
+use Rattle.layout.specs.Spine.{SpineNode, hangs, Role, knee, ordinary, switch, opposite, facing}
 use Rattle.layout.specs.Drawing.{join, draw}
 use Rattle.layout.specs.inner.Held.{hung_on, width_on, far, lay}
 use Rattle.layout.proofs.Rows.{shape, size_facing}
@@ -38,7 +38,7 @@ shape_lay left e f knee H r p (hangs k right S ∷ ls) = shape_step k _ right le
 shape_lay right e f knee H r p (hangs k left S ∷ ls) = shape_step k _ left right _ _ S _ _ (shape_lay right e f _ _ _ _ ls)
 shape_lay right e f knee H r p (hangs k right S ∷ ls) = shape_step k _ right right _ _ S _ _ (shape_lay right e f _ _ _ _ ls)
 shape_lay a e f ordinary H r p (hangs k s S ∷ ls) = shape_step k _ s a _ _ S _ _ (shape_lay a e f _ _ _ _ ls)
-shape_lay a e f switch H r p (hangs k s S ∷ ls) = shape_step k _ s a _ _ S _ _ (shape_lay _ f e _ _ _ _ ls)
+shape_lay a e f switch H r p (hangs k s S ∷ ls) = shape_step k _ s a _ _ S _ _ (shape_lay (opposite a) f e _ _ _ _ ls)
 
 -- A drawing of a node is not blank.
 pub width_node : (s : Side) (T : Tree) → 0 < size T → 1 ≤ width_on s T

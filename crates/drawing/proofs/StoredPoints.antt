@@ -35,6 +35,7 @@ unfolding shape
 times_placed k j P a b = count_node k j (shape a) (shape b)
 
 pub times_node : (L : Layout) (n : Node L) → 1 ≤ times (record_of n) L
+times_node blank n = elim n [ ]
 times_node (placed j P a b) root = omega (arith, times_placed j j P a b, same_one j j refl)
 times_node (placed j P a b) (below left n) = omega (arith, times_placed (record_of n) j P a b, times_node a n)
 times_node (placed j P a b) (below right n) = omega (arith, times_placed (record_of n) j P a b, times_node b n)
@@ -65,6 +66,7 @@ kept_point L p j none = ap₂ at (store_kept L p (2 * j) (λ k h. (λ e. other k
 pub store_point : (L : Layout) (p : List ℕ) → ((k : ℕ) → times k L ≤ 1) → ((k : ℕ) → 1 ≤ times k L → 2 * k + 1 < length p) → (n : Node L) →
     point_of (store L p) (record_of n) ≡ point n
 unfolding store
+store_point blank p once room n = elim n [ ]
 store_point (placed k P a b) p once room root =
     kept_point b (store a (pair p k P)) k (omega (arith, once k, times_placed k k P a b, same_one k k refl)) ∙
     (kept_point a (pair p k P) k (omega (arith, once k, times_placed k k P a b, same_one k k refl)) ∙

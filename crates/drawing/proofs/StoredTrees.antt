@@ -35,7 +35,8 @@ unfolding store_all
 stored_length [] p = refl
 stored_length (L ∷ Ls) p = stored_length Ls (store L p) ∙ store_length L p
 
-pub stored_kept : (Ls : List Layout) (p : List ℕ) (i : ℕ) → ((k : ℕ) → 1 ≤ times_in k Ls → (i ≢ 2 * k) × (i ≢ 2 * k + 1)) → get_or (store_all Ls p) i 0 ≡ get_or p i 0
+pub stored_kept : (Ls : List Layout) (p : List ℕ) (i : ℕ) → ((k : ℕ) → 1 ≤ times_in k Ls → (i ≢ 2 * k) × (i ≢ 2 * k + 1)) →
+    get_or (store_all Ls p) i 0 ≡ get_or p i 0
 unfolding store_all times_in
 stored_kept [] p i out = refl
 stored_kept (L ∷ Ls) p i out = stored_kept Ls (store L p) i (λ k h. out k (omega arith)) ∙ store_kept L p i (λ k h. out k (omega arith))

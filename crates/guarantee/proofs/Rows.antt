@@ -1,7 +1,7 @@
 -- No gaps, no shared rows, for all bytes and placements that the drawer accepts: `no_shared_rows`, `under_ruler`, `no_gaps`. Rests on the laws of the drawings
 -- (`each_tree`, `ruler_trees`, `rows_held`) and on their points being read back (`agrees`).
 use mathlib.Core.Path.{◌≡◌, refl, sym, ap, ◌∙◌}
-use mathlib.Core.List.{List, ◌∷◌}
+use mathlib.Core.List.{List, [], ◌∷◌}
 use Prim.Native.Nat.{ℕ, ◌≤◌}
 use native.Mathlib.Omega.{arith}
 use lib.Dec.{T}
@@ -38,6 +38,7 @@ record InRow (plan : ℕ → Point) (Ls : List Layout) (x : ℕ) : Type 0 where
 
 in_row : (plan : ℕ → Point) (Ls : List Layout) (x : ℕ) → AgreesAll plan Ls → Among (λ L. HoldsRow L x) Ls → InRow plan Ls x
 unfolding times_in
+in_row plan [] x fit h = elim h [ ]
 in_row plan (L ∷ Ls) x fit (here (n, e)) = record { k = record_of n; listed = omega (arith, times_node L n); row = ap (λ (Q : Point). Q.row) (fit.0 n) ∙ e }
 in_row plan (L ∷ Ls) x fit (there h) = let z = in_row plan Ls x fit.1 h in record { k = z.k; listed = omega (arith, z.listed); row = z.row }
 
@@ -56,8 +57,8 @@ module _ (t p : List ℕ) (e : (drawn_of t p).refusal ≡ 0) where
 
   pub under_ruler : UnderRuler t p
   under_ruler k b U m c d o =
-      ruler_trees (point_of (placed_in t p)) (trees t) 0 (agrees t p none_refused) (nodes_distinct t ok) (tree_at t k) (tree_of k m) b ((nodes_chain t ok b).1 c) d
-      o
+      ruler_trees (point_of (placed_in t p)) (trees t) 0 (agrees t p none_refused) (nodes_distinct t ok) (tree_at t k)
+      (tree_of k m) b ((nodes_chain t ok b).1 c) d o
 
   pub no_gaps : NoGaps t p
   unfolding plan_of

@@ -51,6 +51,7 @@ among_at P f k (n ∷ ns) h m =
     ⊎_elim (λ (e : k ≡ n). here (subst (λ (j : ℕ). P (f j)) e h)) (λ (l : T (member k ns)). there (among_at P f k ns h l)) ((member_cons k n ns).0 m)
 
 among_each : {P Q : Tree → Type 0} → ((a : Tree) → P a → Q a) → (ts : List Tree) → Among P ts → Among Q ts
+among_each f [] h = elim h [ ]
 among_each f (a ∷ ts) (here h) = here (f a h)
 among_each f (a ∷ ts) (there h) = there (among_each f ts h)
 

@@ -69,8 +69,8 @@ swap : {c d : Kind} {L : Layout} {p : Piece c L} {r : Piece d L} {q x y : ℕ} �
 swap (same alike) = same alike
 swap (common n e f i) = common n f e i
 
-met_below : {k : ℕ} {P : Point} {a b : Layout} (s : Side) {c d : Kind} {p : Piece c (on_side s a b)} {r : Piece d (on_side s a b)} {q x y : ℕ} → Meet p r q x y →
-    Meet (below {k = k} {P = P} {a = a} {b = b} s p) (below {k = k} {P = P} {a = a} {b = b} s r) q x y
+met_below : {k : ℕ} {P : Point} {a b : Layout} (s : Side) {c d : Kind} {p : Piece c (on_side s a b)} {r : Piece d (on_side s a b)} {q x y : ℕ} →
+    Meet p r q x y → Meet (below {k = k} {P = P} {a = a} {b = b} s p) (below {k = k} {P = P} {a = a} {b = b} s r) q x y
 met_below s (same alike) = same alike
 met_below s (common n e f i) = common (below s n) (⊎_map (ap (below s)) (ap (below s)) e) (⊎_map (ap (below s)) (ap (below s)) f) i
 

@@ -153,7 +153,8 @@ pub ruler_trees : (plan : ℕ → Point) (ts : List Tree) (r : ℕ) → AgreesAl
     (a : Tree) → Among (λ c. c ≡ a) ts → (b : ℕ) → T (member b (nodes_of ts)) → {U : Tree} →
     DrawnIn a U → OccupiesRow plan U (plan b).row → Beneath a b U
 ruler_trees plan ts r fit distinct a h b m {U} d o =
-    ruler {plan = plan} a ((repeats_count (nodes a)).1 (λ x. omega (arith, tree_count x a ts h, (repeats_count (nodes_of ts)).0 distinct x))) (each_tree ts r fit a h) b in_a d o
+    ruler {plan = plan} a ((repeats_count (nodes a)).1 (λ x. omega (arith, tree_count x a ts h, (repeats_count (nodes_of ts)).0 distinct x)))
+    (each_tree ts r fit a h) b in_a d o
   where
     x : ℕ
     x = (plan b).row

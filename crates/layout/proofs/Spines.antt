@@ -45,7 +45,8 @@ spine_tree (l ∷ ls) = over l (spine_tree ls)
 -- A hung subtree has less than half of the n nodes, and no more than the rest of the spine.
 pub data Light (n : ℕ) : List SpineNode → Type 0 where
   light_end : Light n []
-  light_node : {l : SpineNode} {ls : List SpineNode} → 2 * size (hung_tree l) + 1 ≤ n → size (hung_tree l) ≤ size (spine_tree ls) → Light n ls → Light n (l ∷ ls)
+  light_node : {l : SpineNode} {ls : List SpineNode} → 2 * size (hung_tree l) + 1 ≤ n → size (hung_tree l) ≤ size (spine_tree ls) → Light n ls →
+      Light n (l ∷ ls)
 
 -- The spine as a side sees it, from the tree as it stands.
 by_test : (s : Side) (c : Bool) (l m : SpineNode) {x y : List SpineNode} (x' y' : List SpineNode) → x ≡ map (seen s) x' → y ≡ map (seen s) y' →
@@ -57,10 +58,11 @@ pub spine_on_lem : (s : Side) (t : Tree) → spine (facing s t) ≡ map (seen s)
 unfolding spine spine_on facing mirror seen opposite
 spine_on_lem left none = refl
 spine_on_lem right none = refl
-spine_on_lem left (node k a b) = by_test left (leb (size b) (size a)) (hangs k right b) (hangs k left a) (spine_on left a) (spine_on left b) (spine_on_lem left a)
-    (spine_on_lem left b)
+spine_on_lem left (node k a b) = by_test left (leb (size b) (size a)) (hangs k right b) (hangs k left a) (spine_on left a) (spine_on left b)
+    (spine_on_lem left a) (spine_on_lem left b)
 spine_on_lem right (node k a b) = rw (size_mirror a, size_mirror b, spine)
-    (by_test right (leb (size a) (size b)) (hangs k left a) (hangs k right b) (spine_on right b) (spine_on right a) (spine_on_lem right b) (spine_on_lem right a))
+    (by_test right (leb (size a) (size b)) (hangs k left a) (hangs k right b) (spine_on right b) (spine_on right a)
+    (spine_on_lem right b) (spine_on_lem right a))
 
 spine_here : (t : Tree) → spine t ≡ spine_on left t
 unfolding facing seen

@@ -16,7 +16,8 @@ use Rattle.table.specs.Refusal.{fault}
 use Rattle.table.proofs.Lists.{same, same_one, length_within}
 use Rattle.table.proofs.Chain.{length_nodes}
 use Rattle.table.proofs.Accepted.{records_bounds, chain_length, size_below, tree_unfolds, tree_none}
-use Rattle.layout.specs.Spine.{SpineNode, hangs, spine, Role, knee, ordinary, switch, opposite, facing, seen, role_after, hand_after, assigned, roles_after, roles}
+use Rattle.layout.specs.Spine.{SpineNode, hangs, spine, Role, knee, ordinary, switch, opposite, facing, seen, role_after, hand_after}
+use Rattle.layout.specs.Spine.{assigned, roles_after, roles}
 use Rattle.layout.specs.Drawing.{Part, hang, widest, draw}
 use Rattle.layout.specs.inner.Held.{width_on, spine_on, role_next, widest_on}
 use Rattle.layout.specs.inner.Width.{edge, turn}
@@ -176,7 +177,12 @@ module _ (t : List ℕ) (ok : fault t ≡ 0) (s : Side) (root : ℕ) where
               (λ x (i : 1 ≤ count x (nodes (tree_at t hung))). kg x (omega (arith, single x)))
 
     pub size_inside : size (tree_at t k) ≤ size (tree_at t root)
-    size_inside = omega (arith, length_within (nodes (tree_at t k)) (nodes (tree_at t root)) v.inside, length_nodes (tree_at t k), length_nodes (tree_at t root))
+    size_inside = omega (
+      arith,
+      length_within (nodes (tree_at t k)) (nodes (tree_at t root)) v.inside,
+      length_nodes (tree_at t k),
+      length_nodes (tree_at t root),
+    )
 
     -- The end of the survey.
     module _ (c : T (member root (chain t))) where

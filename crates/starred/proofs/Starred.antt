@@ -9,7 +9,8 @@ use Rattle.table.specs.Lists.{any, member, repeats, count, select}
 use Rattle.table.specs.Table.{word, follow, chain, free}
 use Rattle.table.specs.Tree.{size, nodes, descend}
 use Rattle.table.specs.Trees.{links, starts_tree, nodes_of}
-use Rattle.table.specs.Refusal.{bad_length, bad_head, beyond, broken, occupied, bad_free, stray, bad_links, is_empty, bad_tree, short_placements, fault, refusal}
+use Rattle.table.specs.Refusal.{bad_length, bad_head, beyond, broken, occupied, bad_free, stray, bad_links, is_empty, bad_tree}
+use Rattle.table.specs.Refusal.{short_placements, fault, refusal}
 use Rattle.layout.specs.Layout.{width, height, shift, flip, mirror}
 use Rattle.layout.specs.Spine.{spine, opposite, seen, run_role, role_after, hand_after, roles_after, roles}
 use Rattle.layout.specs.Drawing.{hang, widest, join, place, steps, drawing, draw}
@@ -78,8 +79,8 @@ every (c ∷ cs) ok = let z = and_yes (test c) (tests cs) ok in (right c z.0, ev
 
 pub starred : All Right cases
 unfolding any member repeats count select word follow chain free size nodes descend bad_length bad_head beyond broken occupied bad_free stray bad_links
-    is_empty links starts_tree nodes_of bad_tree short_placements fault refusal width height shift flip mirror spine opposite seen run_role role_after hand_after
-    roles_after roles hang widest join place steps drawing draw draw_from width_of height_of store store_all plan_of drawn_of placed_in cross overlap spans
-    astride meets samePlace crosses along clashes present some_line same_point child_above two_lines some_point clashing in_order out_of_order verdict_of greatest
-    floor_log2 allowed_width same listed test tests
+    is_empty links starts_tree nodes_of bad_tree short_placements fault refusal width height shift flip mirror spine opposite seen run_role role_after
+    hand_after roles_after roles hang widest join place steps drawing draw draw_from width_of height_of store store_all plan_of drawn_of placed_in cross
+    overlap spans astride meets samePlace crosses along clashes present some_line same_point child_above two_lines some_point clashing in_order
+    out_of_order verdict_of greatest floor_log2 allowed_width same listed test tests
 starred = every cases tt

@@ -6,10 +6,8 @@ use native.Mathlib.Omega.{arith}
 use lib.ListN.{length, set}
 use lib.Ieee.{Float}
 use borrow.Author.Tests.{le-leb, lt-leb}
-use borrow.Author.Rules.{rules}
 use Rattle.bt.specs.Bits.{overwritten}
-use Rattle.bt.proofs.put_point.Statement.{statement}
-use Rattle.bt.proofs.put_point.Tie as tie
+use Rattle.bt.proofs.put_point.Goals as goal
 
 room : (x y : Float) (lent : List Float) → 2 ≤ length lent → set (set lent 0 x) 1 y ≡ overwritten (x ∷ y ∷ []) lent
 unfolding overwritten
@@ -21,21 +19,8 @@ no_room : (point lent : List Float) → length lent < 2 → lent ≡ overwritten
 unfolding overwritten
 no_room point lent h = rw (lt-leb 2 (length lent) h)
 
-slice-write-lent : tie.Need-slice-write-lent
-slice-write-lent c = search rules
+pub returns-then-lent-ge2 : goal.returns-then-lent-ge2
+returns-then-lent-ge2 c = room _ _ _ c.if-lent-ge2.true
 
-slice-write-lent-2 : tie.Need-slice-write-lent-2
-slice-write-lent-2 c = search rules
-
-same_length : tie.Need-same-length
-same_length c = search rules
-
-returns : tie.Need-returns
-returns c = room _ _ _ c.if1.true
-
-returns-2 : tie.Need-returns-2
-returns-2 c = no_room _ _ c.if1.false
-
-pub put-point-spec : {M : Type 1} → statement M
-put-point-spec =
-    tie.close (tie.spec slice-write-lent slice-write-lent-2 same_length returns returns-2)
+pub returns-else-lent-ge2 : goal.returns-else-lent-ge2
+returns-else-lent-ge2 c = no_room _ _ c.if-lent-ge2.false
