@@ -1,7 +1,7 @@
 -- The walk along the chain, or along the free records: what its loop keeps, and how it ends. Rests on Lists, Chain and Causes.
 use mathlib.Core.Path.{◌≡◌, refl, sym, ap, ◌∙◌}
 use mathlib.Core.Logic.{◌⊎◌, inl, inr, ⊎_elim, ⊎_map}
-use mathlib.Core.Bool.{Bool, true, false, cond, ◌||◌, or-true, or_false, true≢false}
+use mathlib.Core.Bool.{Bool, true, false, cond, ◌||◌, or-true, or-false, true≢false}
 use mathlib.Core.List.{List, [], ◌∷◌, ◌++◌, append_assoc, append-nil}
 use Prim.Native.Nat.{ℕ, zero, suc, ◌+◌, ◌-◌, ◌≤◌, ◌<◌}
 use native.Mathlib.Nat.{sub-zero}
@@ -137,7 +137,7 @@ module _ (t : List ℕ) (k i at : ℕ) (list mark : List ℕ) (w : Walk t k i at
       -- A member is one of the old, or the new one.
       cases : (k : ℕ) → T (member k (take i list ++ (at ∷ []))) → T (member k (take i list)) ⊎ (k ≡ at)
       unfolding member
-      cases k h = ⊎_map (λ (o : T (member k (take i list))). o) (λ (o : T (eqb k at || false)). eqb→eq k at (rw or_false at o))
+      cases k h = ⊎_map (λ (o : T (member k (take i list))). o) (λ (o : T (eqb k at || false)). eqb→eq k at (rw or-false at o))
           ((or_T (member k (take i list)) (eqb k at || false)).0 (rw member_append at h))
 
       within : (k : ℕ) → T (member k (take i list ++ (at ∷ []))) → (1 ≤ k) × (k < records t)
@@ -149,7 +149,7 @@ module _ (t : List ℕ) (k i at : ℕ) (list mark : List ℕ) (w : Walk t k i at
         where
           go : Alike k at → get_or (set mark at 1) k 0 ≡ cond (eqb k 0 || (member k (take i list) || (eqb k at || false))) 1 0
           go (inl e) = rw (e.0, eq-eqb at at refl, or-true, or-true) (get_or-set_same mark at 1 0 (omega (arith, w.mark_long, shaped.room)))
-          go (inr e) = rw (ne_eqb k at e.0, or_false, get_or-set_other mark at k 1 0 e.0) (w.marks k)
+          go (inr e) = rw (ne_eqb k at e.0, or-false, get_or-set_other mark at k 1 0 e.0) (w.marks k)
 
       pub walk_step : next_of t at < 65536 → Walk t k (i + 1) (next_of t at) (set list i at) (set mark at 1)
       walk_step s = record {

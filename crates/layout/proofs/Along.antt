@@ -54,6 +54,7 @@ Reached run H r = (H ≤ r) × (r ≤ H + 1)
 
 some : (e t : ℕ) (D : Layout) → HasRoot (shift e t D) → (1 ≤ width D) × (1 ≤ height D)
 unfolding shift height width
+some e t blank h = elim h [ ]
 some e t (placed k P a b) a_root = (omega arith, omega arith)
 
 hung : (e t : ℕ) {S : Tree} {D : Layout} → Drawn S D → HungRectangle e t (width D) (height D) (shift e t D)

@@ -2,7 +2,7 @@
 -- spine of a whole tree, and that of each subtree that hangs from a spine node, at any depth. Rests on Apart, which has it for one spine, and on the
 -- theorem on a drawing.
 use mathlib.Core.Path.{◌≡◌, sym, subst}
-use mathlib.Core.List.{List, ◌∷◌, map}
+use mathlib.Core.List.{List, [], ◌∷◌, map}
 use Prim.Native.Nat.{ℕ, ◌+◌, ◌≤◌}
 use native.Mathlib.Omega.{arith}
 use Rattle.segment.specs.declared.Point.{Point}
@@ -104,6 +104,7 @@ module _ {plan : ℕ → Point} (a : Tree) (h : ShownIn plan (draw a)) where
 
 pub each_tree : {plan : ℕ → Point} (ts : List Tree) (r : ℕ) → AgreesAll plan (draw_from r ts) → (a : Tree) → Among (λ b. b ≡ a) ts → SpinesApart plan a
 unfolding draw_from
+each_tree [] r fit a h = elim h [ ]
 each_tree {plan} (b ∷ ts) r fit a (Among.here e) =
     subst (SpinesApart plan) e (every_spine b (shown_at (shown_shift 0 r (draw b) (agrees_shown plan (shift 0 r (draw b)) fit.0))))
 each_tree (b ∷ ts) r fit a (there i) = each_tree ts (r + height (draw b)) fit.1 a i

@@ -11,7 +11,7 @@ use Rattle.table.specs.Table.{Side, left, right}
 use Rattle.layout.specs.Layout.{Layout, placed}
 use Rattle.layout.proofs.Clean.{on_side, HasRoot, a_root, Kind, Piece, root, edge, below, Node, Edge, top, point, parent, child, side, Ends, Before}
 use Rattle.layout.proofs.Clean.{Clean}
-use Rattle.layout.proofs.Points.{falls, Along, point_on, EdgeTo, Lower, Order, Untangled, fork, low, untangled, deep, low_top, under_top}
+use Rattle.layout.proofs.Points.{falls, Along, point_on, EdgeTo, Lower, Order, Untangled, bare, fork, low, untangled, deep, low_top, under_top}
 
 -- ---- pairs of pieces
 
@@ -136,6 +136,7 @@ distinct c n m e = one_node (meet {q = 1} c n m (omega arith) (along_node n 1)
 
 -- 22
 lower : {L : Layout} → Untangled L → (l : Edge L) → (point (parent l)).row < (point (child l)).row
+lower bare l = elim l [ ]
 lower (fork c d j o) (edge s h) = low_top (low j s) h
 lower (fork c d j o) (below s l) = lower (untangled c d s) l
 
@@ -145,6 +146,7 @@ share_end d (same alike) = absurd (d refl)
 share_end d (common n e f z) = (n, e, f, z)
 
 lies_at_end : {L : Layout} {n : Node L} {l : Edge L} {q x y : ℕ} → Meet n l q x y → Ends n l
+lies_at_end (same h) = elim h [ ]
 lies_at_end {l} (common i e f z) = subst (λ k. Ends k l) (only_end e) f
 
 -- 24
@@ -153,6 +155,7 @@ never e = omega arith
 
 ordered : {L : Layout} → Untangled L → (l m : Edge L) → parent l ≡ parent m → side l ≡ left → side m ≡ right →
     Before (point (parent l)) (point (child l)) (point (child m))
+ordered bare l m e s t = elim l [ ]
 ordered (fork c d j o) (edge left h) (edge left i) e s t = absurd (never (cc))
 ordered (fork {P} c d j o) (edge left h) (edge right i) e s t = before P o h i
 ordered (fork c d j o) (edge left h) (below u m) e s t = absurd (never (cc))

@@ -27,10 +27,12 @@ weights_shifted e t m = record {
 edge_shifted : {P : Point} {q x y : ℕ} (e t : ℕ) (L : Layout) (h : HasRoot (shift e t L)) → Weights (at (e + P.column) (t + P.row)) (point (top h)) q x y →
     EdgeTo P q (x - q * e) (y - q * t) L
 unfolding shift
+edge_shifted e t blank h m = elim h [ ]
 edge_shifted e t (placed k Q a b) a_root m = record { has = a_root; on = weights_shifted e t m }
 
 piece_shifted : {c : Kind} {q x y : ℕ} (e t : ℕ) (L : Layout) (p : Piece c (shift e t L)) → Along p q x y → PointOf q (x - q * e) (y - q * t) L
 unfolding shift
+piece_shifted e t blank p m = elim p [ ]
 piece_shifted e t (placed k P a b) root m = point_on root (weights_shifted e t m)
 piece_shifted e t (placed k P a b) (edge left h) m = point_edge left (edge_shifted e t a h m)
 piece_shifted e t (placed k P a b) (edge right h) m = point_edge right (edge_shifted e t b h m)
@@ -64,6 +66,7 @@ untangled_shift e t (fork {P} {a} {b} c d j o) = fork (untangled_shift e t c) (u
 
 node_within : (e w t h : ℕ) (L : Layout) → width L ≤ w → height L ≤ h → (n : Node (shift e t L)) → NodeInWindow e w t h n
 unfolding shift width height
+node_within e w t h blank i j n = elim n [ ]
 node_within e w t h (placed k P a b) i j root = omega arith
 node_within e w t h (placed k P a b) i j (below left n) = node_within e w t h a (omega arith) (omega arith) n
 node_within e w t h (placed k P a b) i j (below right n) = node_within e w t h b (omega arith) (omega arith) n
@@ -124,10 +127,12 @@ module _ (e : ℕ) where
   edge_flipped : {P : Point} {q x y : ℕ} → P.column ≤ e → (L : Layout) → width L ≤ suc e → (h : HasRoot (flip e L)) →
       Weights (at (e - P.column) P.row) (point (top h)) q x y → EdgeTo P q (q * e - x) y L
   unfolding flip width
+  edge_flipped h blank w h' m = elim h' [ ]
   edge_flipped h (placed k Q a b) w a_root m = record { has = a_root; on = weights_flipped h (omega arith) m }
 
   piece_flipped : {c : Kind} {q x y : ℕ} (L : Layout) → width L ≤ suc e → (p : Piece c (flip e L)) → Along p q x y → PointOf q (q * e - x) y L
   unfolding flip width
+  piece_flipped blank w p m = elim p [ ]
   piece_flipped (placed k P a b) w root m = point_on root (weights_flipped (omega arith) (omega arith) m)
   piece_flipped (placed k P a b) w (edge left h) m = point_edge right (edge_flipped (omega arith) b (omega arith) h m)
   piece_flipped (placed k P a b) w (edge right h) m = point_edge left (edge_flipped (omega arith) a (omega arith) h m)

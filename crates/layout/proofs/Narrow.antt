@@ -5,7 +5,7 @@ use Prim.Native.Nat.{ℕ, ◌+◌, ◌≤◌, max}
 use native.Mathlib.Omega.{arith}
 use Rattle.segment.specs.Segment.{at}
 use Rattle.table.specs.Table.{Side, left, right}
-use Rattle.layout.specs.Layout.{Layout, blank, placed, width, height, shift, flip}
+use Rattle.layout.specs.Layout.{Layout, blank, placed, width, height, flip}
 use Rattle.layout.specs.Spine.{knee, ordinary, switch}
 use Rattle.layout.specs.Drawing.{Part, part, widest, join, place}
 use Rattle.layout.proofs.Motions.{edge_wide}

@@ -105,6 +105,7 @@ untangled c d right = d
 -- ---- the top row of an untangled drawing
 
 lower_all : {L : Layout} → Untangled L → {m : ℕ} → Lower m L → (n : Node L) → m < (point n).row
+lower_all bare h n = elim n [ ]
 lower_all (fork c d j o) h root = h
 lower_all (fork {P} c d j o) h (below s n) = omega (arith, lower_all (untangled c d s) {m = P.row} (low j s) n)
 
@@ -126,6 +127,7 @@ pub record Under (P : Point) (q x y : ℕ) : Type 0 where
   pub only : y ≤ q * P.row → x ≡ q * P.column
 
 under_piece : {L : Layout} {c : Kind} {q x y : ℕ} → Untangled L → (h : HasRoot L) → 1 ≤ q → (p : Piece c L) → Along p q x y → Under (point (top h)) q x y
+under_piece bare h one p m = elim h [ ]
 under_piece (fork {P} c d j o) a_root one root m =
     record { rows = omega (arith, m.in_row, weighed m P.row); only = λ l. m.in_column ∙ weighed m P.column }
 under_piece (fork c d j o) a_root one (edge s h) m = let f = falls (low_top (low j s) h) m in record { rows = f.over; only = f.start }

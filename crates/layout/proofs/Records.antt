@@ -8,7 +8,7 @@ use Rattle.segment.specs.Segment.{On, Share, Is, Lies}
 use Rattle.segment.proofs.Weights.{weights}
 use Rattle.table.specs.Table.{Side, left, right}
 use Rattle.table.specs.Tree.{Tree, node}
-use Rattle.layout.specs.Layout.{Layout, placed, shift}
+use Rattle.layout.specs.Layout.{Layout, blank, placed, shift}
 use Rattle.layout.specs.Drawing.{draw}
 use Rattle.layout.proofs.Clean.{HasRoot, a_root, root, edge, below, Node, Edge, top, point, record_of, parent, child, side, Ends, Before, Clean}
 use Rattle.layout.proofs.Points.{PointOf, point_on}
@@ -67,16 +67,19 @@ record AsEdge (k c : ℕ) (s : Side) (L : Layout) : Type 0 where
 
 as_node : (k : ℕ) (L : Layout) → IsNode k (shape L) → AsNode k L
 unfolding shape
+as_node k blank h = elim h [ ]
 as_node k (placed i P a b) node_here = record { n = root; is = refl }
 as_node k (placed i P a b) (node_left h) = let z = as_node k a h in record { n = below left z.n; is = z.is }
 as_node k (placed i P a b) (node_right h) = let z = as_node k b h in record { n = below right z.n; is = z.is }
 
 as_root : (c : ℕ) (L : Layout) → Root c (shape L) → (h : HasRoot L) × (record_of (top h) ≡ c)
 unfolding shape
+as_root c blank h = elim h [ ]
 as_root c (placed k P a b) root_here = (a_root, refl)
 
 as_edge : (k c : ℕ) (s : Side) (L : Layout) → Child k c s (shape L) → AsEdge k c s L
 unfolding shape
+as_edge k c s blank h = elim h [ ]
 as_edge k c s (placed i P a b) (left_child h) = let z = as_root c a h in record { l = edge left z.0; from = refl; to = z.1; on = refl }
 as_edge k c s (placed i P a b) (right_child h) = let z = as_root c b h in record { l = edge right z.0; from = refl; to = z.1; on = refl }
 as_edge k c s (placed i P a b) (child_left h) = let z = as_edge k c s a h in record { l = below left z.l; from = z.from; to = z.to; on = z.on }

@@ -37,7 +37,7 @@ size_mirror (node k a b) = omega (arith, size_mirror a, size_mirror b)
 pub member_mirror : (k : ℕ) (t : Tree) → member k (nodes (mirror t)) ≡ member k (nodes t)
 unfolding mirror nodes member
 member_mirror k none = refl
-member_mirror k (node n a b) = rw (member_append, member_append, member_mirror k a, member_mirror k b, or_comm (member k (nodes b)) (member k (nodes a)))
+member_mirror k (node n a b) = rw (member_append k (nodes (mirror b)) (nodes (mirror a)), member_append k (nodes a) (nodes b), member_mirror k a, member_mirror k b, or_comm (member k (nodes b)) (member k (nodes a)))
 
 pub size_facing : (s : Side) (t : Tree) → size (facing s t) ≡ size t
 unfolding facing

@@ -145,6 +145,7 @@ member_trees b (c ∷ ts) h = ⊎_elim (λ (m : T (member b (nodes c))). Among.h
     ((or_T (member b (nodes c)) (member b (nodes_of ts))).0 (rw (member_append b (nodes c) (nodes_of ts)) at h))
 
 tree_count : (x : ℕ) (a : Tree) (ts : List Tree) → Among (λ c. c ≡ a) ts → count x (nodes a) ≤ count x (nodes_of ts)
+tree_count x a [] h = elim h [ ]
 tree_count x a (c ∷ ts) (Among.here e) = omega (arith, count_trees x c ts, ap (λ (t : Tree). count x (nodes t)) e)
 tree_count x a (c ∷ ts) (there h) = omega (arith, count_trees x c ts, tree_count x a ts h)
 
@@ -152,7 +153,7 @@ pub ruler_trees : (plan : ℕ → Point) (ts : List Tree) (r : ℕ) → AgreesAl
     (a : Tree) → Among (λ c. c ≡ a) ts → (b : ℕ) → T (member b (nodes_of ts)) → {U : Tree} →
     DrawnIn a U → OccupiesRow plan U (plan b).row → Beneath a b U
 ruler_trees plan ts r fit distinct a h b m {U} d o =
-    ruler a ((repeats_count (nodes a)).1 (λ x. omega (arith, tree_count x a ts h, (repeats_count (nodes_of ts)).0 distinct x))) (each_tree ts r fit a h) b in_a d o
+    ruler {plan = plan} a ((repeats_count (nodes a)).1 (λ x. omega (arith, tree_count x a ts h, (repeats_count (nodes_of ts)).0 distinct x))) (each_tree ts r fit a h) b in_a d o
   where
     x : ℕ
     x = (plan b).row

@@ -98,12 +98,14 @@ pub record InOneTree (plan : ℕ → Point) (P Q : Tree → Type 0) : Type 0 whe
 module _ (plan : ℕ → Point) where
   from_row : {P : Tree → Type 0} {q y : ℕ} → AtRow plan P q y → (ts : List Tree) (r : ℕ) → AgreesAll plan (draw_from r ts) → Among P ts → q * r ≤ y
   unfolding draw_from
+  from_row z [] r fit h = elim h [ ]
   from_row z (a ∷ ts) r fit (here h) = (z.within r a fit.0 h).0
   from_row z (a ∷ ts) r fit (there h) = omega (arith, from_row z ts (r + height (draw a)) fit.1 h)
 
   pub one_row : {P Q : Tree → Type 0} {q y : ℕ} → AtRow plan P q y → AtRow plan Q q y → (ts : List Tree) (r : ℕ) → AgreesAll plan (draw_from r ts) → Among P ts →
       Among Q ts → InOneTree plan P Q
   unfolding draw_from
+  one_row z w [] r fit h _ = elim h [ ]
   one_row z w (a ∷ ts) r fit (here h) (here i) = record { tree = a; top = r; fit = fit.0; one = h; other = i }
   one_row z w (a ∷ ts) r fit (here h) (there i) = absurd (omega (arith, (z.within r a fit.0 h).1, from_row w ts (r + height (draw a)) fit.1 i))
   one_row z w (a ∷ ts) r fit (there h) (here i) = absurd (omega (arith, (w.within r a fit.0 i).1, from_row z ts (r + height (draw a)) fit.1 h))

@@ -45,12 +45,12 @@ grown false e W w x X R h i j k = (omega arith, omega arith)
 laid_wide : (W H r p : ℕ) {b : Bool} {ps : List Part} → InStep W b ps → width (place W H r p ps).drawn ≡ cond (turns ps) (W + 3) (reaches ps)
 unfolding place join width turns reaches
 laid_wide W H r p no_more = refl
-laid_wide W H r p (a_knee {s = left} {D} {ps} h l) = (grown (turns ps) 1 W (width D) _ _ (reaches ps) (omega arith) h (edge_wide 1 _ D) (laid_wide W _ _ _ l)).0
-laid_wide W H r p (a_knee {s = right} {D} {ps} h l) = (grown (turns ps) 1 W (width D) _ _ (reaches ps) (omega arith) h (edge_wide 1 _ D) (laid_wide W _ _ _ l)).1
+laid_wide W H r p (a_knee {s = left} {D} {ps} h l) = (grown (turns ps) 1 W (width D) _ _ (reaches ps) (omega arith) h (edge_wide 1 _ D) (laid_wide W (max H r) (max H r + 1) (height D) l)).0
+laid_wide W H r p (a_knee {s = right} {D} {ps} h l) = (grown (turns ps) 1 W (width D) _ _ (reaches ps) (omega arith) h (edge_wide 1 _ D) (laid_wide W (max H r + height D) (max H r + height D + 1) 0 l)).1
 laid_wide W H r p (an_ordinary {s = left} {D} {ps} h l) =
-    (grown (turns ps) 2 W (width D) _ _ (reaches ps) (omega arith) h (edge_wide 2 _ D) (laid_wide W _ _ _ l)).0
+    (grown (turns ps) 2 W (width D) _ _ (reaches ps) (omega arith) h (edge_wide 2 _ D) (laid_wide W (r + height D) (r + max 1 (height D)) p l)).0
 laid_wide W H r p (an_ordinary {s = right} {D} {ps} h l) =
-    (grown (turns ps) 2 W (width D) _ _ (reaches ps) (omega arith) h (edge_wide 2 _ D) (laid_wide W _ _ _ l)).1
+    (grown (turns ps) 2 W (width D) _ _ (reaches ps) (omega arith) h (edge_wide 2 _ D) (laid_wide W (r + height D) (r + max 1 (height D)) p l)).1
 laid_wide W H r p (a_switch {s = left} {D} {ps} h l) = omega (arith, edge_wide 1 (r + 1) D, turned_wide W (r + height D + p) (r + 1) 0 l)
 laid_wide W H r p (a_switch {s = right} {D} {ps} h l) = omega (arith, edge_wide 1 (r + 1) D, turned_wide W (r + height D + p) (r + 1) 0 l)
 

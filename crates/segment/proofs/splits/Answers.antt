@@ -1,0 +1,13 @@
+-- `segment::splits` meets its contract: its numbers are read back as they were passed.
+use mathlib.Core.Path.{refl, ◌∙◌}
+use mir.Syntax.{w64}
+use mir.ValLaws.{to_z-of_z}
+use lib.Signed.{lt_z}
+use Rattle.segment.proofs.Answers.{and_skip, and_stop, spans_by}
+use Rattle.segment.proofs.splits.Goals as goal
+
+pub returns-then-d-lt0 : goal.returns-then-d-lt0
+returns-then-d-lt0 c = and_skip c.if-d-lt0.true (spans_by lt_z _ _ (to_z-of_z w64 c.args.d c.ranges.d) (to_z-of_z w64 c.args.e c.ranges.e))
+
+pub returns-else-d-lt0 : goal.returns-else-d-lt0
+returns-else-d-lt0 c = c.if-d-lt0.false ∙ and_stop _ c.if-d-lt0.false (spans_by lt_z _ _ (to_z-of_z w64 c.args.d c.ranges.d) refl)

@@ -1,0 +1,13 @@
+-- `reaches` answers whether all nodes are reached, and then lists them.
+use mathlib.Core.Path.{◌∙◌}
+use Rattle.trees.proofs.Reached.{ordered}
+use borrow.Author.Rules.{rules}
+use Rattle.trees.proofs.reach.reaches.Goals as goal
+
+pub returns : goal.returns
+returns c =
+    let a = c.spread-reached in
+    record {
+      value = (ordered _ a.new.order _ _ c.requires.rooted (a.auto.order ∙ c.requires.order_len) a.ensures c.requires.nodes_value).0;
+      ordered = (ordered _ a.new.order _ _ c.requires.rooted (a.auto.order ∙ c.requires.order_len) a.ensures c.requires.nodes_value).1;
+    }
