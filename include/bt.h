@@ -1,7 +1,7 @@
 /* Drawing ordered binary trees on a grid, checking such drawings, comparing two lines, plotting drawings by a
  * pen, and hanging leaves, at once or in two halves, and cutting them in the table that holds the trees.
  *
- * Link target/staticlib/libbt.a, which `rt staticlib bt` makes; of the C library it wants memcpy and memset
+ * Link crates/bt/out/libbt.a, which `rt lib` makes in crates/bt; of the C library it wants memcpy and memset
  * alone. All functions end, allocate nothing, keep nothing between calls, and may be called from several
  * threads at once. Their stack was measured below 110 KB.
  *

@@ -2,6 +2,7 @@
 ghost use Rattle.std.specs.Prelude.{◌≡◌, ◌+◌, ◌<◌, ◌≤◌, length};
 
 use line::widened;
+use std::io::Read;
 
 #[derive(Clone, Copy)]
 pub struct Head {
@@ -31,57 +32,62 @@ pub fn word(bytes: &[u8], at: usize) -> u16
     (byte(bytes[at]) + 256 * byte(bytes[at + 1])) as u16
 }
 
+// Reads until the bytes are full, the input ends or a read fails; what is not read stays as it was.
+fn read_full(input: &mut impl Read, bytes: &mut [u8]) {
+    let _ = input.read_exact(bytes);
+}
+
 // The next word; 0 where the input has ended.
-fn next_word() -> u16 {
+fn next_word(input: &mut impl Read) -> u16 {
     let mut bytes = [0u8; 2];
-    io::read_full(0, &mut bytes);
+    read_full(input, &mut bytes);
     word(&bytes, 0)
 }
 
 // The next head; kind 0 where the input has ended.
-pub fn next_head() -> Head {
+pub fn next_head(input: &mut impl Read) -> Head {
     Head {
-        kind: next_word(),
-        count: next_word(),
-        first: next_word(),
-        step: next_word(),
+        kind: next_word(input),
+        count: next_word(input),
+        first: next_word(input),
+        step: next_word(input),
     }
 }
 
 // The next number of 64 bits, in four words.
-pub fn next_number() -> u64 {
-    widened(next_word())
-        + 0x1_0000 * widened(next_word())
-        + 0x1_0000_0000 * widened(next_word())
-        + 0x1_0000_0000_0000 * widened(next_word())
+pub fn next_number(input: &mut impl Read) -> u64 {
+    widened(next_word(input))
+        + 0x1_0000 * widened(next_word(input))
+        + 0x1_0000_0000 * widened(next_word(input))
+        + 0x1_0000_0000_0000 * widened(next_word(input))
 }
 
 // The next bytes: how many they are.
-pub fn next_bytes(bytes: &mut [u8], count: usize) -> usize
+pub fn next_bytes(input: &mut impl Read, bytes: &mut [u8], count: usize) -> usize
     requires { count ≤ length bytes.old }
     ensures { result ≡ count }
 {
-    io::read_full(0, &mut bytes[..count]);
+    read_full(input, &mut bytes[..count]);
     count
 }
 
-fn read_words(places: &mut [u16], count: usize)
+fn read_words(input: &mut impl Read, places: &mut [u16], count: usize)
     requires { count ≤ length places.old }
 {
     let mut i = 0;
     while i < count {
-        places[i] = next_word();
+        places[i] = next_word(input);
         i += 1;
     }
 }
 
-fn read_pairs(places: &mut [u16], count: usize)
+fn read_pairs(input: &mut impl Read, places: &mut [u16], count: usize)
     requires { 65536 ≤ length places.old }
 {
     let mut i = 0;
     while i < count {
-        let at = size(next_word());
-        places[at] = next_word();
+        let at = size(next_word(input));
+        places[at] = next_word(input);
         i += 1;
     }
 }
@@ -100,20 +106,20 @@ fn fill(places: &mut [u16], count: usize, first: u16, step: usize)
 }
 
 // A case that gives the placements: how many there are.
-pub fn give(places: &mut [u16], before: usize, h: Head) -> usize
+pub fn give(input: &mut impl Read, places: &mut [u16], before: usize, h: Head) -> usize
     requires in_bounds { 65536 ≤ length places.old }
     requires before_bound { before ≤ 65536 }
     ensures { result ≤ 65536 }
 {
     let count = size(h.count);
     if h.kind == 2 {
-        read_words(places, count);
+        read_words(input, places, count);
         return count;
     }
     if h.kind == 3 {
         fill(places, count, h.first, size(h.step));
         return count;
     }
-    read_pairs(places, count);
+    read_pairs(input, places, count);
     before
 }

@@ -39,6 +39,7 @@ use line::{end, start, widened};
 use pen::strokes::Stroke;
 use records::writing::copy;
 use segment::meeting::{Meeting, compare};
+use std::io::Read;
 use wide::Wide;
 
 // How many bytes the table has, how many placements there are, and whether cases are left.
@@ -49,174 +50,177 @@ pub struct State {
     pub more: bool,
 }
 
-fn put_plan(plan: Plan) {
-    put_field(widened(plan.nodes));
-    put_field(widened(plan.width));
-    put_field(widened(plan.height));
-    put(b"\n");
+fn put_plan(rt: &impl Print, plan: Plan) {
+    put_field(rt, widened(plan.nodes));
+    put_field(rt, widened(plan.width));
+    put_field(rt, widened(plan.height));
+    put(rt, b"\n");
 }
 
-fn run_draw(table: &[u8], places: &mut [u16]) {
+fn run_draw(rt: &impl Print, table: &[u8], places: &mut [u16]) {
     let drawn = drawing::draw(table, places);
-    put(b"draw");
-    put_field(widened(drawn.refusal));
-    put_plan(drawn.plan);
-    put_places(places);
+    put(rt, b"draw");
+    put_field(rt, widened(drawn.refusal));
+    put_plan(rt, drawn.plan);
+    put_places(rt, places);
 }
 
-fn put_wide(answer: Wide) {
-    put(b"wide");
+fn put_wide(rt: &impl Print, answer: Wide) {
+    put(rt, b"wide");
     match answer {
-        Wide::Planned(plan) => put_plan(plan),
-        Wide::Refused(refusal) => put_line(b" refused", widened(refusal)),
+        Wide::Planned(plan) => put_plan(rt, plan),
+        Wide::Refused(refusal) => put_line(rt, b" refused", widened(refusal)),
     }
 }
 
-fn run_wide(table: &[u8], places: &mut [u16]) {
-    put_wide(wide::draw_wide(table, places));
-    put_places(places);
+fn run_wide(rt: &impl Print, table: &[u8], places: &mut [u16]) {
+    put_wide(rt, wide::draw_wide(table, places));
+    put_places(rt, places);
 }
 
-fn run_check(table: &[u8], places: &[u16]) {
-    put_line(b"check", widened(verdict::check(table, places)));
+fn run_check(rt: &impl Print, table: &[u8], places: &[u16]) {
+    put_line(rt, b"check", widened(verdict::check(table, places)));
 }
 
-fn run_width(h: Head) {
+fn run_width(rt: &impl Print, h: Head) {
     let n = widened(h.count) + 65536 * widened(h.first) + 4294967296 * widened(h.step);
-    put_line(b"width", width::allowed_width(n));
+    put_line(rt, b"width", width::allowed_width(n));
 }
 
-fn put_stroke(answer: Stroke) {
+fn put_stroke(rt: &impl Print, answer: Stroke) {
     match answer {
-        Stroke::Lift(point) => put_point(b"stroke lift", point),
-        Stroke::Draw(point) => put_point(b"stroke draw", point),
-        Stroke::Done => put(b"stroke done\n"),
-        Stroke::Refused(refusal) => put_line(b"stroke refused", widened(refusal)),
+        Stroke::Lift(point) => put_point(rt, b"stroke lift", point),
+        Stroke::Draw(point) => put_point(rt, b"stroke draw", point),
+        Stroke::Done => put(rt, b"stroke done\n"),
+        Stroke::Refused(refusal) => put_line(rt, b"stroke refused", widened(refusal)),
     }
 }
 
-fn run_stroke(table: &[u8], places: &[u16], pitch: u8) {
-    put_stroke(pen::stroke(table, places, pitch, next_number()));
+fn run_stroke(rt: &impl Print, input: &mut impl Read, table: &[u8], places: &[u16], pitch: u8) {
+    put_stroke(rt, pen::stroke(table, places, pitch, next_number(input)));
 }
 
 // A name, as it stands.
-fn run_name(count: usize)
+fn run_name(rt: &impl Print, input: &mut impl Read, count: usize)
     requires { count ≤ 255 }
 {
     let mut name = [0u8; 256];
-    let n = next_bytes(&mut name, count);
-    put(&name[..n]);
-    put(b"\n");
+    let n = next_bytes(input, &mut name, count);
+    put(rt, &name[..n]);
+    put(rt, b"\n");
 }
 
-fn put_meeting(answer: Meeting) {
+fn put_meeting(rt: &impl Print, answer: Meeting) {
     match answer {
-        Meeting::Separate => put(b"compare separate\n"),
-        Meeting::SharedEnd => put(b"compare end\n"),
-        Meeting::Crossing => put(b"compare crossing\n"),
-        Meeting::Touching => put(b"compare touching\n"),
+        Meeting::Separate => put(rt, b"compare separate\n"),
+        Meeting::SharedEnd => put(rt, b"compare end\n"),
+        Meeting::Crossing => put(rt, b"compare crossing\n"),
+        Meeting::Touching => put(rt, b"compare touching\n"),
     }
 }
 
 // A line is read as a number of 64 bits, of four words.
-fn run_compare() {
-    let a = next_number();
-    let b = next_number();
-    put_meeting(compare(start(a), end(a), start(b), end(b)));
+fn run_compare(rt: &impl Print, input: &mut impl Read) {
+    let a = next_number(input);
+    let b = next_number(input);
+    put_meeting(rt, compare(start(a), end(a), start(b), end(b)));
 }
 
 // What hanging or its first half says: the record, or the refusal.
-fn put_hung(answer: Hung) {
+fn put_hung(rt: &impl Print, answer: Hung) {
     match answer {
-        Hung::Leaf(record) => put_line(b"", widened(record)),
-        Hung::Refused(refusal) => put_line(b" refused", widened(refusal)),
+        Hung::Leaf(record) => put_line(rt, b"", widened(record)),
+        Hung::Refused(refusal) => put_line(rt, b" refused", widened(refusal)),
     }
 }
 
-fn run_hold(table: &[u8], h: Head) {
-    put(b"hold");
-    put_hung(hanging::hold(table, h.count, (h.first % 256) as u8));
+fn run_hold(rt: &impl Print, table: &[u8], h: Head) {
+    put(rt, b"hold");
+    put_hung(rt, hanging::hold(table, h.count, (h.first % 256) as u8));
 }
 
-fn run_hang(table: &mut [u8], h: Head) {
-    put(b"hang");
-    put_hung(hanging::hang(table, h.count, (h.first % 256) as u8, h.step));
+fn run_hang(rt: &impl Print, table: &mut [u8], h: Head) {
+    put(rt, b"hang");
+    put_hung(
+        rt,
+        hanging::hang(table, h.count, (h.first % 256) as u8, h.step),
+    );
 }
 
-fn run_held(table: &mut [u8], h: Head) {
-    let held = (next_number() % 65536) as u16;
+fn run_held(rt: &impl Print, input: &mut impl Read, table: &mut [u8], h: Head) {
+    let held = (next_number(input) % 65536) as u16;
     let refusal = hanging::hang_held(table, h.count, (h.first % 256) as u8, h.step, held);
-    put_line(b"held", widened(refusal));
+    put_line(rt, b"held", widened(refusal));
 }
 
-fn run_cut(table: &mut [u8], node: u16) {
-    put_line(b"cut", widened(hanging::cut(table, node)));
+fn run_cut(rt: &impl Print, table: &mut [u8], node: u16) {
+    put_line(rt, b"cut", widened(hanging::cut(table, node)));
 }
 
 // A call that writes to the table.
-fn write(table: &mut [u8], h: Head) {
+fn write(rt: &impl Print, input: &mut impl Read, table: &mut [u8], h: Head) {
     if h.kind == 11 {
-        run_hang(table, h);
+        run_hang(rt, table, h);
         return;
     }
     if h.kind == 12 {
-        run_cut(table, h.count);
+        run_cut(rt, table, h.count);
         return;
     }
-    run_held(table, h);
+    run_held(rt, input, table, h);
 }
 
 // A case that writes to the table, the first bytes of a buffer: the answer, and the records that are changed.
-fn change(table: &mut [u8], bytes: usize, h: Head)
+fn change(rt: &impl Print, input: &mut impl Read, table: &mut [u8], bytes: usize, h: Head)
     requires value { 65536 ≡ length table.old }
     requires bytes_bound { bytes ≤ 65536 }
 {
-    let mut before = io::large_buffer();
+    let mut before = [0u8; 65536];
     copy(table, &mut before);
-    write(&mut table[..bytes], h);
-    put_changed(&before, table, bytes);
+    write(rt, input, &mut table[..bytes], h);
+    put_changed(rt, &before, table, bytes);
 }
 
 // A case that needs no placements.
-fn ask_table(table: &[u8], h: Head) {
+fn ask_table(rt: &impl Print, input: &mut impl Read, table: &[u8], h: Head) {
     if h.kind == 7 {
-        run_width(h);
+        run_width(rt, h);
         return;
     }
     if h.kind == 10 {
-        run_name(size(h.count) % 256);
+        run_name(rt, input, size(h.count) % 256);
         return;
     }
     if h.kind == 13 {
-        run_hold(table, h);
+        run_hold(rt, table, h);
         return;
     }
-    run_compare();
+    run_compare(rt, input);
 }
 
 // A case that leaves the table as it is.
-fn ask(table: &[u8], places: &mut [u16], h: Head) {
+fn ask(rt: &impl Print, input: &mut impl Read, table: &[u8], places: &mut [u16], h: Head) {
     if h.kind == 5 {
-        run_draw(table, places);
+        run_draw(rt, table, places);
         return;
     }
     if h.kind == 6 {
-        run_check(table, places);
+        run_check(rt, table, places);
         return;
     }
     if h.kind == 8 {
-        run_wide(table, places);
+        run_wide(rt, table, places);
         return;
     }
     if h.kind == 9 {
-        run_stroke(table, places, (h.count % 256) as u8);
+        run_stroke(rt, input, table, places, (h.count % 256) as u8);
         return;
     }
-    ask_table(table, h);
+    ask_table(rt, input, table, h);
 }
 
 // A case that gives the table or the placements.
-fn take(table: &mut [u8], places: &mut [u16], s: State, h: Head) -> State
+fn take(input: &mut impl Read, table: &mut [u8], places: &mut [u16], s: State, h: Head) -> State
     requires value { 65536 ≡ length table.old }
     requires in_bounds { 65536 ≤ length places.old }
     requires bytes_bound { s.bytes ≤ 65536 }
@@ -226,20 +230,27 @@ fn take(table: &mut [u8], places: &mut [u16], s: State, h: Head) -> State
 {
     if h.kind == 1 {
         return State {
-            bytes: next_bytes(table, size(h.count)),
+            bytes: next_bytes(input, table, size(h.count)),
             places: s.places,
             more: true,
         };
     }
     State {
         bytes: s.bytes,
-        places: give(places, s.places, h),
+        places: give(input, places, s.places, h),
         more: true,
     }
 }
 
 // A case that prints.
-fn answer(table: &mut [u8], places: &mut [u16], s: State, h: Head)
+fn answer(
+    rt: &impl Print,
+    input: &mut impl Read,
+    table: &mut [u8],
+    places: &mut [u16],
+    s: State,
+    h: Head,
+)
     requires value { 65536 ≡ length table.old }
     requires in_bounds { 65536 ≤ length places.old }
     requires bytes_bound { s.bytes ≤ 65536 }
@@ -248,14 +259,20 @@ fn answer(table: &mut [u8], places: &mut [u16], s: State, h: Head)
     let n = s.bytes;
     let m = s.places;
     if h.kind == 11 || h.kind == 12 || h.kind == 14 {
-        change(table, n, h);
+        change(rt, input, table, n, h);
         return;
     }
-    ask(&table[..n], &mut places[..m], h);
+    ask(rt, input, &table[..n], &mut places[..m], h);
 }
 
 // The next case.
-fn step(table: &mut [u8], places: &mut [u16], s: State) -> State
+fn step(
+    rt: &impl Print,
+    input: &mut impl Read,
+    table: &mut [u8],
+    places: &mut [u16],
+    s: State,
+) -> State
     requires value { 65536 ≡ length table.old }
     requires in_bounds { 65536 ≤ length places.old }
     requires bytes_bound { s.bytes ≤ 65536 }
@@ -263,7 +280,7 @@ fn step(table: &mut [u8], places: &mut [u16], s: State) -> State
     ensures bytes_bound_2 { result.bytes ≤ 65536 }
     ensures places_bound_2 { result.places ≤ 65536 }
 {
-    let h = next_head();
+    let h = next_head(input);
     if h.kind == 0 || 15 < h.kind {
         return State {
             bytes: s.bytes,
@@ -272,14 +289,14 @@ fn step(table: &mut [u8], places: &mut [u16], s: State) -> State
         };
     }
     if h.kind < 5 {
-        return take(table, places, s, h);
+        return take(input, table, places, s, h);
     }
-    answer(table, places, s, h);
+    answer(rt, input, table, places, s, h);
     s
 }
 
 // A proved loop has to end, and nothing says that the input does: it counts its turns down from a number that no run uses up.
-fn run(table: &mut [u8], places: &mut [u16])
+fn run(rt: &impl Print, input: &mut impl Read, table: &mut [u8], places: &mut [u16])
     requires value { 65536 ≡ length table.old }
     requires in_bounds { 65536 ≤ length places.old }
 {
@@ -290,13 +307,13 @@ fn run(table: &mut [u8], places: &mut [u16])
     };
     let mut turns = u64::MAX;
     while 0 < turns && s.more {
-        s = step(table, places, s);
+        s = step(rt, input, table, places, s);
         turns -= 1;
     }
 }
 
-fn main() {
-    let mut table = io::large_buffer();
+fn main(rt: HostRuntime) {
+    let mut table = [0u8; 65536];
     let mut places = [0u16; 65536];
-    run(&mut table, &mut places);
+    run(&rt, &mut rt.reader(), &mut table, &mut places);
 }
