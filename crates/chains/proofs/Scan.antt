@@ -84,7 +84,8 @@ module _ (t : List ℕ) (n : ℕ) (list : List ℕ) (l : Listed t (chain t) n li
       go false true e = rw (lt-leb (records t) k (sound_within t l.sound k ((T_true (member k (chain t))).1 e)).1)
       go false false e = rw or-true
 
-  pub stray_by : (mark : List ℕ) → Marked (chain t) mark → (r b : Bool) (k link : ℕ) → not r ≡ b → r ≡ not (eqb (get_or mark link 0) 0) → link ≡ k → stray t k ≡ b
+  pub stray_by : (mark : List ℕ) → Marked (chain t) mark → (r b : Bool) (k link : ℕ) → not r ≡ b → r ≡ not (eqb (get_or mark link 0) 0) → link ≡ k →
+      stray t k ≡ b
   stray_by mark m r b k link d e f = ap (stray t) (sym f) ∙ sym (stray_mark mark m link) ∙ sym (not-not _) ∙ ap not (sym e) ∙ d
 
 -- A record other than the head is marked if it is on the chain.

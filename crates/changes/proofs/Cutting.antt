@@ -141,7 +141,8 @@ cut_leaf t k e = cuttable_leaf (cuttable t k e)
 
 -- "cutting the only box empties the tree"
 pub cut_only : (t : List ℕ) (k : ℕ) → cut_refusal t k ≡ 0 → chain t ≡ k ∷ [] → Empty (cut_out t k)
-cut_only t k e one = ⊎_elim (λ (z : Empty (cut_out t k)). z) (λ (m : Chained (cut_out t k) (root_of (cut_out t k))). absurd (unfold member in rw none_left at m))
+cut_only t k e one = ⊎_elim (λ (z : Empty (cut_out t k)). z) (λ (m : Chained (cut_out t k) (root_of (cut_out t k))). absurd
+    (unfold member in rw none_left at m))
     (root (cut_out t k) l.accepted)
   where
     l : CutLeaf t k

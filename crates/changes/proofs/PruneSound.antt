@@ -103,7 +103,8 @@ module _ {t u : List ℕ} {c p j f : ℕ} (g : Graft t u c p j f) (h : Prunable 
   }
 
   pub pruned_reaching : Reaching t
-  pruned_reaching P r f' k m = down u h.accepted (λ n. Chained t n → P n) (λ n i a b. r n ((root_cases t n).1 (still_root_lem n b ((root_cases u n).0 i))) b) step
+  pruned_reaching P r f' k m = down u h.accepted (λ n. Chained t n → P n)
+      (λ n i a b. r n ((root_cases t n).1 (still_root_lem n b ((root_cases u n).0 i))) b) step
       k (still g h k m) m
     where
       still_root_lem : (n : ℕ) → Chained t n → (n ≡ root_of u) ⊎ (Chained u n × (named u n ≡ 0)) → (n ≡ root_of t) ⊎ (Chained t n × (named t n ≡ 0))

@@ -88,7 +88,8 @@ module _ {t u : List ℕ} {c p j f : ℕ} (g : Graft t u c p j f) (h : Prunable 
       go true (inr e) r =
           let m = c k ((member_cons k k ks).1 (inl refl)) in
           let n = ap (without_leaf f) (tree_unfolds u h.accepted k m) ∙ without_node_lem f k (tree_at u (left_of u k)) (tree_at u (right_of u k)) e.0 in
-          let some = nonempty_node (without_leaf f (tree_at u k)) k (without_leaf f (tree_at u (left_of u k))) (without_leaf f (tree_at u (right_of u k))) rest n in
+          let some = nonempty_node (without_leaf f (tree_at u k)) k (without_leaf f (tree_at u (left_of u k)))
+          (without_leaf f (tree_at u (right_of u k))) rest n in
           rw (ne_eqb k f e.0) (some ∙ ap₂ (λ (x : Tree) (xs : List Tree). x ∷ xs) (sym (pruned_at k k m (inr (refl, e.0)))) r)
 
   others_left : select starting (chain u) ≡ select (starts_tree t) (chain t)

@@ -36,6 +36,7 @@ hung_bytes t parent side tag b s =
 pub cut_answers : (t : List ℕ) (parent side tag : ℕ) → hang_refusal t parent side ≡ 0 → cut_refusal (hung t parent side tag) (first_free t) ≡ 0
 cut_answers t parent side tag h = cut_allowed (hung_graft t parent side tag h) (grown_prunable (growth t parent side tag h))
 
-pub restored : (t : List ℕ) (parent side tag : ℕ) → Bytes t → tag < 65536 → hang_refusal t parent side ≡ 0 → after_cut (hung t parent side tag) (first_free t) ≡ t
+pub restored : (t : List ℕ) (parent side tag : ℕ) → Bytes t → tag < 65536 → hang_refusal t parent side ≡ 0 →
+    after_cut (hung t parent side tag) (first_free t) ≡ t
 restored t parent side tag b s h =
     after_undoes (hung_graft t parent side tag h) (grown_prunable (growth t parent side tag h)) b (hung_bytes t parent side tag b s)

@@ -27,7 +27,8 @@ module _ (t : List ℕ) (parent side tag : ℕ) (h : Hung) (says : said h ≡ ha
         let r = refused_kept t parent side h says tag n e in
         (r.0, left ∙ sym r.1)
 
-    pub undone : (k n : ℕ) (v : List ℕ) → h ≡ Leaf k → Bytes t → tag < 65536 → n ≡ cut_refusal u k → v ≡ after_cut u k → (n ≡ hang_refusal t parent side) × (v ≡ t)
+    pub undone : (k n : ℕ) (v : List ℕ) → h ≡ Leaf k → Bytes t → tag < 65536 → n ≡ cut_refusal u k → v ≡ after_cut u k →
+        (n ≡ hang_refusal t parent side) × (v ≡ t)
     undone k n v e b small answers after =
         let l = leaf_said t parent side h says k e in
         let w = left ∙ sym (hang_after t parent side tag l.0) in

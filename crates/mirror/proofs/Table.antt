@@ -12,7 +12,21 @@ use Rattle.table.specs.Lists.{member, count}
 use Rattle.table.specs.Table.{Side, left, right, records, word, link_of, next_of, left_of, right_of, root_of, chain, Chained, first_free, free}
 use Rattle.table.specs.Tree.{Tree, node, nodes, descend, tree_at}
 use Rattle.table.specs.Trees.{links, named, roots, trees, nodes_of}
-use Rattle.table.specs.Refusal.{bad_length, bad_head, beyond, broken, bad_chain, occupied, bad_free, stray, bad_links, bad_tree, short_placements, fault, refusal}
+use Rattle.table.specs.Refusal.{
+  bad_length,
+  bad_head,
+  beyond,
+  broken,
+  bad_chain,
+  occupied,
+  bad_free,
+  stray,
+  bad_links,
+  bad_tree,
+  short_placements,
+  fault,
+  refusal,
+}
 use Rattle.table.specs.Writing.{with_word}
 use Rattle.table.proofs.Lists.{T_false, member_cons, member_append, any_same}
 use Rattle.table.proofs.Chain.{follow_same, trees_alike}
@@ -33,7 +47,8 @@ module _ (k : ℕ) (t : List ℕ) where
 
   step_kept : (m i : ℕ) → i < 4 → ((m ≡ k) × (i ≡ 1) → ⊥) → ((m ≡ k) × (i ≡ 2) → ⊥) → word (exchange_links k t) m i ≡ word t m i
   unfolding exchange_links
-  step_kept m i h a b = word_kept k 2 (left_of t k) (with_word k 1 (right_of t k) t) m i h (omega arith) b ∙ word_kept k 1 (right_of t k) t m i h (omega arith) a
+  step_kept m i h a b = word_kept k 2 (left_of t k) (with_word k 1 (right_of t k) t) m i h (omega arith) b ∙
+      word_kept k 1 (right_of t k) t m i h (omega arith) a
 
   step_other : (m : ℕ) (s : Side) → (k ≡ m → ⊥) → link_of (exchange_links k t) s m ≡ link_of t s m
   step_other m left d = step_kept m 1 (omega arith) (λ e. omega arith) (λ e. omega arith)
@@ -71,7 +86,8 @@ module _ (t : List ℕ) where
   pub exchanged_head : (j : ℕ) → j < 4 → word (exchanged t) 0 j ≡ word t 0 j
   unfolding exchanged
   exchanged_head j h =
-      each_kept exchange_links (λ u. word u 0 j) (chain t) t (λ k m u. let p = chain_positive t k m in step_kept k u 0 j h (λ e. omega arith) (λ e. omega arith))
+      each_kept exchange_links (λ u. word u 0 j) (chain t) t (λ k m u. let p = chain_positive t k m in
+      step_kept k u 0 j h (λ e. omega arith) (λ e. omega arith))
 
   pub exchanged_next : (k : ℕ) → next_of (exchanged t) k ≡ next_of t k
   unfolding exchanged
@@ -170,7 +186,8 @@ module _ (t : List ℕ) where
         free_bad,
         cond_same (bad_chain t) 3
             (λ ok. cond_same (bad_free t) 8
-            (λ f. ap (λ b. cond b 4 (cond (bad_tree (exchanged t)) 5 0)) (links_bad ok) ∙ cond_same (bad_links t) 4 (λ e. ap (λ b. cond b 5 0) (tree_bad ok e)))),
+            (λ f. ap (λ b. cond b 4 (cond (bad_tree (exchanged t)) 5 0)) (links_bad ok) ∙
+            cond_same (bad_links t) 4 (λ e. ap (λ b. cond b 5 0) (tree_bad ok e)))),
       )
 
   pub exchanged_refusal : (places : ℕ) → refusal (exchanged t) places ≡ refusal t places

@@ -67,7 +67,8 @@ ascend : (q x q' x' q'' x'' : ℕ) → 1 ≤ q' → q' * x ≤ q * x' → q'' * 
 ascend q x q' x' q'' x'' one h k = le_of_mul-le-mul_left {k = q'} (omega (arith, mul-le-mul_left q'' h, mul-le-mul_left q k)) one
 
 level_first : (q x q' x' q'' x'' : ℕ) → 1 ≤ q'' → q' * x ≤ q * x' → q'' * x' ≤ q' * x'' → q'' * x ≡ q * x'' → q' * x ≡ q * x'
-level_first q x q' x' q'' x'' one h k e = eq_of_mul-eq-mul_left q'' one _ _ (omega (arith, mul-le-mul_left q'' h, mul-le-mul_left q k, ap (λ (n : ℕ). q' * n) e))
+level_first q x q' x' q'' x'' one h k e = eq_of_mul-eq-mul_left q'' one _ _
+    (omega (arith, mul-le-mul_left q'' h, mul-le-mul_left q k, ap (λ (n : ℕ). q' * n) e))
 
 level_second : (q x q' x' q'' x'' : ℕ) → 1 ≤ q → q' * x ≤ q * x' → q'' * x' ≤ q' * x'' → q'' * x ≡ q * x'' → q'' * x' ≡ q' * x''
 level_second q x q' x' q'' x'' one h k e = eq_of_mul-eq-mul_left q one _ _ (omega (arith, mul-le-mul_left q'' h, mul-le-mul_left q k, ap (λ (n : ℕ). q' * n) e))

@@ -77,7 +77,8 @@ level_sided : (w p o n m k l : ℕ) → 0 < w → k ≡ l → w * p + l * m + k 
 level_sided w p o n m k l h f e = eq_of_mul-eq-mul_left w h p o (omega (arith, ap (λ (t : ℕ). t * n) f, ap (λ (t : ℕ). t * m) f))
 
 module _ (b : ℕ) {P Q : Point} {q x y q' x' y' : ℕ} (a : Weights P Q q x y) (e : Level b q x y q' x' y') where
-  sided : b * (q * plus_at P Q q' x' y') + q * x' * number b Q + q' * x * number b P ≡ b * (q * minus_at P Q q' x' y') + q * x' * number b P + q' * x * number b Q
+  sided : b * (q * plus_at P Q q' x' y') + q * x' * number b Q + q' * x * number b P ≡
+      b * (q * minus_at P Q q' x' y') + q * x' * number b P + q' * x * number b Q
   sided =
       let f = q * (q' * (P.column * Q.row)) in
       let g = q * (q' * (P.row * Q.column)) in

@@ -25,7 +25,8 @@ ends k c = record { parent = k; child = c }
 
 -- What holds of every line from the given records to a child holds of every line of the list.
 module _ (P : Ends → Type 0) where
-  ahead : (k c : ℕ) (rest : List Ends) → (c ≢ 0 → P (ends k c)) → ((i : ℕ) → i < length rest → P (line_at rest i)) → (i : ℕ) → i < length (line_to k c ++ rest) →
+  ahead : (k c : ℕ) (rest : List Ends) → (c ≢ 0 → P (ends k c)) → ((i : ℕ) → i < length rest → P (line_at rest i)) → (i : ℕ) →
+      i < length (line_to k c ++ rest) →
       P (line_at (line_to k c ++ rest) i)
   unfolding line_to
   ahead k zero rest f g i h = g i h

@@ -59,7 +59,8 @@ worst_arranged {across} {n} {a} {b} {m} r w = record {
 }
   where
     same : (i j : ℕ) → i < n → j < n →
-        Alike (start_of (get_or b i 0)) (end_of (get_or b i 0)) (start_of (get_or b j 0)) (end_of (get_or b j 0)) (start_of (get_or a i 0)) (end_of (get_or a i 0))
+        Alike (start_of (get_or b i 0)) (end_of (get_or b i 0)) (start_of (get_or b j 0)) (end_of (get_or b j 0)) (start_of (get_or a i 0))
+        (end_of (get_or a i 0))
         (start_of (get_or a j 0)) (end_of (get_or a j 0))
     same i j h k = alike_then (joined_alike (r.line i h) (r.line j k))
         (view_alike across (start_of (get_or a i 0)) (end_of (get_or a i 0)) (start_of (get_or a j 0)) (end_of (get_or a j 0)))

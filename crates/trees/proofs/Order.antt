@@ -128,7 +128,8 @@ module _ (t : List ℕ) (r : Rooted t) where
   queue_length h o q = omega (arith, length_within o (chain t) q.within, sound_length t r.shaped.whole r.sound, r.shaped.room)
 
 pub queue_chained : (t : List ℕ) (h : ℕ) (o : List ℕ) → Queue t h o → (i : ℕ) → i < length o → T (member (get_or o i 0) (chain t))
-queue_chained t h o q i l = (member_count (get_or o i 0) (chain t)).1 (omega (arith, (member_count (get_or o i 0) o).0 (member_at o i l), q.within (get_or o i 0)))
+queue_chained t h o q i l = (member_count (get_or o i 0) (chain t)).1 (omega
+    (arith, (member_count (get_or o i 0) o).0 (member_at o i l), q.within (get_or o i 0)))
 
 -- An array whose first `tail` numbers are such an order, as far as its node `head`.
 pub record Spreading (t order : List ℕ) (head tail : ℕ) : Type 0 where

@@ -29,7 +29,14 @@ child_present t ks k (suc x) s m e h =
 -- What is among the children of a list is named by one of it.
 present_child : (t ks : List ℕ) (x : ℕ) → T (member x (present (links t ks))) → (0 < x) × ((p : ℕ) × (s : Side) × T (member p ks) × (link_of t s p ≡ x))
 present_child t ks zero m = absurd (omega (arith, zero_present (links t ks), (member_count 0 (present (links t ks))).0 m))
-present_child t ks (suc x) m = (omega arith, namer t (suc x) ks (omega (arith, count_present x (links t ks), (member_count (suc x) (present (links t ks))).0 m)))
+present_child t ks (suc x) m = (
+  omega arith,
+  namer t (suc x) ks (omega (
+    arith,
+    count_present x (links t ks),
+    (member_count (suc x) (present (links t ks))).0 m,
+  )),
+)
 
 module _ (t o : List ℕ) (q : Queue t (length o) o) where
   -- At each place the order is the roots, the children of the nodes before it, and those of the others.
@@ -64,7 +71,8 @@ module _ (t o : List ℕ) (q : Queue t (length o) o) where
       let e : get_or o i 0 ≡ get_or (roots t ++ C) i 0 = ap (λ (l : List ℕ). get_or l i 0) (split i) ∙
       get_or-append (roots t ++ C) (present (links t (drop i o))) 0 i (soon i h) in
       let m : T (member (get_or o i 0) (roots t ++ C)) = rw e (member_at (roots t ++ C) i (soon i h)) in
-      ⊎_map (λ (a : T (member (get_or o i 0) (roots t))). a) child ((or_T (member (get_or o i 0) (roots t)) (member (get_or o i 0) C)).0 (rw member_append at m))
+      ⊎_map (λ (a : T (member (get_or o i 0) (roots t))). a) child ((or_T (member (get_or o i 0) (roots t)) (member (get_or o i 0) C)).0
+      (rw member_append at m))
     where
       child : T (member (get_or o i 0) (present (links t (take i o)))) →
           (j : ℕ) × (s : Side) × (j < i) × (0 < link_of t s (get_or o j 0)) × (link_of t s (get_or o j 0) ≡ get_or o i 0)

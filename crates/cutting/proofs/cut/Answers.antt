@@ -21,7 +21,8 @@ returns-then-reading-ne0 c = record {
 
 pub no_leaf-requires : goal.no_leaf-requires
 no_leaf-requires c =
-    nodes_of_lem (sym c.examine-reading.ensures.refusal ∙ c.if-reading-ne0.false) c.examine-reading.auto.chain (c.examine-reading.ensures.accepted c.if-reading-ne0.false).nodes
+    nodes_of_lem (sym c.examine-reading.ensures.refusal ∙ c.if-reading-ne0.false) c.examine-reading.auto.chain
+    (c.examine-reading.ensures.accepted c.if-reading-ne0.false).nodes
     (c.examine-reading.ensures.accepted c.if-reading-ne0.false).listed
 
 pub returns-then-no_leaf : goal.returns-then-no_leaf
@@ -33,7 +34,8 @@ returns-then-no_leaf c =
 pub cut_leaf-requires : goal.cut_leaf-requires
 cut_leaf-requires c =
     record {
-      nodes = nodes_of_lem (sym c.examine-reading.ensures.refusal ∙ c.if-reading-ne0.false) c.examine-reading.auto.chain (c.examine-reading.ensures.accepted c.if-reading-ne0.false).nodes
+      nodes = nodes_of_lem (sym c.examine-reading.ensures.refusal ∙ c.if-reading-ne0.false) c.examine-reading.auto.chain
+          (c.examine-reading.ensures.accepted c.if-reading-ne0.false).nodes
           (c.examine-reading.ensures.accepted c.if-reading-ne0.false).listed;
       k_bound = leaf_inside _ _ (sym c.examine-reading.ensures.refusal ∙ c.if-reading-ne0.false)
           (sym c.no_leaf.ensures ∙ c.if-no_leaf.false);

@@ -36,7 +36,8 @@ returns-then-walked c =
 pub tangled-cause-requires : goal.tangled-cause-requires
 tangled-cause-requires c =
     let listed : let t = c.args.table.now in
-    Listed t (chainOf t) c.walk-walked.result.count c.walk-walked.new.list = walked_listed _ _ _ _ _ c.walk-walked.ensures _ (from_next _ _ c.next.ensures.0) c.if-walked.false in
+    Listed t (chainOf t) c.walk-walked.result.count c.walk-walked.new.list =
+    walked_listed _ _ _ _ _ c.walk-walked.ensures _ (from_next _ _ c.next.ensures.0) c.if-walked.false in
     record {
       listed = listed;
       marked = walked_marked _ _ _ _ _ c.walk-walked.ensures _ (from_next _ _ c.next.ensures.0) c.if-walked.false;
@@ -46,6 +47,7 @@ tangled-cause-requires c =
 pub returns : goal.returns
 returns c =
     let listed : let t = c.args.table.now in
-    Listed t (chainOf t) c.walk-walked.result.count c.walk-walked.new.list = walked_listed _ _ _ _ _ c.walk-walked.ensures _ (from_next _ _ c.next.ensures.0) c.if-walked.false in
+    Listed t (chainOf t) c.walk-walked.result.count c.walk-walked.new.list =
+    walked_listed _ _ _ _ _ c.walk-walked.ensures _ (from_next _ _ c.next.ensures.0) c.if-walked.false in
     let l = listed in
     examined _ _ _ l.shaped l.sound _ _ c.tangled-cause.ensures l

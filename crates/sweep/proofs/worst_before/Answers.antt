@@ -9,8 +9,11 @@ loop-j-init c = (omega arith, from_none _ _ _)
 
 pub returns-then-last-first : goal.returns-then-last-first
 returns-then-last-first c =
-    let l = c.loop-j in
-    (omega arith, from_ended {j = l.j - 1} c.requires.onward c.requires.ascending c.requires.i_in_bounds (omega arith) (omega arith) (omega arith) l.invariant.1)
+    let l = c.loop-j in (
+      omega arith,
+      from_ended {j = l.j - 1} c.requires.onward c.requires.ascending c.requires.i_in_bounds (omega arith) (omega arith)
+          (omega arith) l.invariant.1,
+    )
 
 pub worse_with-worst-requires : goal.worse_with-worst-requires
 worse_with-worst-requires c =
@@ -18,7 +21,8 @@ worse_with-worst-requires c =
       low_value = (c.least-low.ensures, c.most-high.ensures);
       s_nonzero = ends_apart _ _ c.start-p.ensures c.end-q.ensures c.start.ensures c.end.ensures
           (omega (arith, c.if-last-first.false, c.first.ensures, c.last.ensures))
-          (c.requires.onward.onward (c.loop-j.j - 1) (omega (arith, below, c.requires.i_in_bounds))) (c.requires.ascending.rises (c.loop-j.j - 1) c.args.i below c.requires.i_in_bounds);
+          (c.requires.onward.onward (c.loop-j.j - 1) (omega (arith, below, c.requires.i_in_bounds)))
+          (c.requires.ascending.rises (c.loop-j.j - 1) c.args.i below c.requires.i_in_bounds);
     }
 
 pub loop-j-preserved : goal.loop-j-preserved

@@ -8,7 +8,8 @@ pub returns-then-same : goal.returns-then-same
 returns-then-same c = alike_kind c.compare_joined.result (common_PR (holds c.if-same.true c.same.ensures)) c.compare_joined.ensures
 
 pub returns-then-same-2 : goal.returns-then-same-2
-returns-then-same-2 c = alike_kind c.compare_joined-then-same-2.result (common_QS (holds c.if-same-2.true c.same-2.ensures)) c.compare_joined-then-same-2.ensures
+returns-then-same-2 c = alike_kind c.compare_joined-then-same-2.result (common_QS (holds c.if-same-2.true c.same-2.ensures))
+    c.compare_joined-then-same-2.ensures
 
 pub compare_apart-requires : goal.compare_apart-requires
 compare_apart-requires c =

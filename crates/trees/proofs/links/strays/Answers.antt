@@ -68,7 +68,8 @@ loop-i-preserved c =
     let t = c.args.table.now in
     let d : stray t _ ≡ false = stray_by _ _ _ c.requires.listed _ c.requires.marked _ _ _ _ (not_from_true _ c.if-not-marked.false) c.marked.ensures
     c.left-l.ensures.0 in
-    let e : stray t _ ≡ false = stray_by _ _ _ c.requires.listed _ c.requires.marked _ _ _ _ (not_from_true _ c.if-not-marked-2.false) c.marked-in-loop-i.ensures
+    let e : stray t _ ≡ false = stray_by _ _ _ c.requires.listed _ c.requires.marked _ _ _ _
+    (not_from_true _ c.if-not-marked-2.false) c.marked-in-loop-i.ensures
     c.right-r.ensures.0 in (
       omega arith,
       below_more _ _ c.loop-i.invariant.1 (rw (d, e)),

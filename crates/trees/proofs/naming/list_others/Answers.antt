@@ -31,7 +31,8 @@ shape_of-roots-then-tally-k-gt1 c =
 
 pub returns-then-tally-k-gt1 : goal.returns-then-tally-k-gt1
 returns-then-tally-k-gt1 c =
-    note_twice _ _ _ c.requires.listed _ c.requires.root_value c.requires.root_value_2 _ c.requires.tallied _ _ c.loop-i-test.true (omega (arith, c.if-tally-k-gt1.true))
+    note_twice _ _ _ c.requires.listed _ c.requires.root_value c.requires.root_value_2 _ c.requires.tallied _ _ c.loop-i-test.true
+    (omega (arith, c.if-tally-k-gt1.true))
 
 pub add_root-count-requires : goal.add_root-count-requires
 add_root-count-requires c =

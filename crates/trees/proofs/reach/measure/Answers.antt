@@ -27,11 +27,19 @@ left-requires c =
 
 pub offset_bounds-sizes-left : goal.offset_bounds-sizes-left
 offset_bounds-sizes-left c =
-    omega (arith, fill_few _ _ _ c.requires.table_value c.requires.nodes_in_bounds.0 c.requires.nodes_in_bounds.1 (c.loop-i.i - 1) (omega arith) left _ c.left.ensures.0)
+    omega (
+      arith,
+      fill_few _ _ _ c.requires.table_value c.requires.nodes_in_bounds.0 c.requires.nodes_in_bounds.1 (c.loop-i.i - 1)
+          (omega arith) left _ c.left.ensures.0,
+    )
 
 pub bounds-sizes-left : goal.bounds-sizes-left
 bounds-sizes-left c =
-    omega (arith, fill_few _ _ _ c.requires.table_value c.requires.nodes_in_bounds.0 c.requires.nodes_in_bounds.1 (c.loop-i.i - 1) (omega arith) left _ c.left.ensures.0)
+    omega (
+      arith,
+      fill_few _ _ _ c.requires.table_value c.requires.nodes_in_bounds.0 c.requires.nodes_in_bounds.1 (c.loop-i.i - 1)
+          (omega arith) left _ c.left.ensures.0,
+    )
 
 pub overflow_cast-l : goal.overflow_cast-l
 overflow_cast-l c = omega (arith, c.slice_known-in-loop-i-1.given c.left.result)
@@ -42,11 +50,19 @@ right-requires c =
 
 pub offset_bounds-sizes-right : goal.offset_bounds-sizes-right
 offset_bounds-sizes-right c =
-    omega (arith, fill_few _ _ _ c.requires.table_value c.requires.nodes_in_bounds.0 c.requires.nodes_in_bounds.1 (c.loop-i.i - 1) (omega arith) right _ c.right.ensures.0)
+    omega (
+      arith,
+      fill_few _ _ _ c.requires.table_value c.requires.nodes_in_bounds.0 c.requires.nodes_in_bounds.1 (c.loop-i.i - 1)
+          (omega arith) right _ c.right.ensures.0,
+    )
 
 pub bounds-sizes-right : goal.bounds-sizes-right
 bounds-sizes-right c =
-    omega (arith, fill_few _ _ _ c.requires.table_value c.requires.nodes_in_bounds.0 c.requires.nodes_in_bounds.1 (c.loop-i.i - 1) (omega arith) right _ c.right.ensures.0)
+    omega (
+      arith,
+      fill_few _ _ _ c.requires.table_value c.requires.nodes_in_bounds.0 c.requires.nodes_in_bounds.1 (c.loop-i.i - 1)
+          (omega arith) right _ c.right.ensures.0,
+    )
 
 pub overflow_cast-r : goal.overflow_cast-r
 overflow_cast-r c = omega (arith, c.slice_known-in-loop-i-2-1.given c.right.result)
@@ -73,10 +89,18 @@ overflow_cast-sizes c = omega (
 )
 
 pub offset_bounds-sizes-k : goal.offset_bounds-sizes-k
-offset_bounds-sizes-k c = omega (arith, fill_inside _ _ _ c.requires.table_value c.requires.nodes_in_bounds.0 c.requires.nodes_in_bounds.1 (c.loop-i.i - 1) (omega arith))
+offset_bounds-sizes-k c = omega (
+  arith,
+  fill_inside _ _ _ c.requires.table_value c.requires.nodes_in_bounds.0 c.requires.nodes_in_bounds.1 (c.loop-i.i - 1)
+      (omega arith),
+)
 
 pub bounds-sizes-k : goal.bounds-sizes-k
-bounds-sizes-k c = omega (arith, fill_inside _ _ _ c.requires.table_value c.requires.nodes_in_bounds.0 c.requires.nodes_in_bounds.1 (c.loop-i.i - 1) (omega arith))
+bounds-sizes-k c = omega (
+  arith,
+  fill_inside _ _ _ c.requires.table_value c.requires.nodes_in_bounds.0 c.requires.nodes_in_bounds.1 (c.loop-i.i - 1)
+      (omega arith),
+)
 
 pub loop-i-smaller : goal.loop-i-smaller
 loop-i-smaller c = omega arith
@@ -84,7 +108,8 @@ loop-i-smaller c = omega arith
 pub loop-i-preserved : goal.loop-i-preserved
 loop-i-preserved c = (
   omega arith,
-  fill_step _ _ _ c.requires.table_value c.requires.nodes_in_bounds.0 c.requires.nodes_in_bounds.1 _ (omega arith) _ (fill_back _ _ _ _ c.loop-i-test.true c.loop-i.invariant.1) _
+  fill_step _ _ _ c.requires.table_value c.requires.nodes_in_bounds.0 c.requires.nodes_in_bounds.1 _ (omega arith) _
+      (fill_back _ _ _ _ c.loop-i-test.true c.loop-i.invariant.1) _
       (fill_sum _ _ _ c.requires.table_value c.requires.nodes_in_bounds.0 c.requires.nodes_in_bounds.1 (c.loop-i.i - 1) (omega arith) _
       (fill_back _ _ _ _ c.loop-i-test.true c.loop-i.invariant.1) _ _ c.left.ensures.0 c.right.ensures.0).0,
 )
