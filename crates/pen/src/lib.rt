@@ -14,6 +14,7 @@ use records::trace;
 
 // The stroke of that number, from 0. The pitch of the grid is counted in quarter millimetres.
 // Promised beyond this contract (promises/specs/Promises): `LinesPlottedOnce`, `StrokesNumbered`, `OneQuarter`, `OffChainStroke`.
+#[tactic(auto, using(crate::proofs::Answered::unpitched))]
 pub fn stroke(table: &[u8], placements: &[u16], pitch: u8, number: u64) -> Stroke
     ensures { told result ≡ stroke_of table.now placements.now pitch number }
 {

@@ -4,7 +4,7 @@ use mathlib.Core.Bool.{Bool, true, false, ◌&&◌, ◌||◌}
 use mathlib.Core.Logic.{◌↔◌}
 use Prim.Native.Nat.{ℕ, min, max}
 use lib.Dec.{T, leb}
-use lib.IntN.{ℤ, pos}
+use lib.IntN.{ℤ}
 use lib.Signed.{le_z, lt_z}
 use Rattle.segment.specs.declared.Point.{Point}
 use Rattle.segment.specs.Segment.{cross}
@@ -45,10 +45,6 @@ or_stop t e h = cc
 pub overlap_by : {l h l' h' : ℕ} (a b x y : ℕ) → l ≡ min a b → h ≡ max x y → l' ≡ min x y → h' ≡ max a b → (leb l h && leb l' h') ≡ overlap a b x y
 unfolding overlap
 overlap_by a b x y e f g i = cc
-
-pub spans_by : (by : ℤ → ℤ → Bool) {d' e' : ℤ} (d e : ℤ) → d' ≡ d → e' ≡ e → (by d' (pos 0) && by (pos 0) e') ≡ spans by d e
-unfolding spans
-spans_by by d e x y = cc
 
 pub astride_by : (by : ℤ → ℤ → Bool) {d e : ℤ} {s t : Bool} (A B X Y : Point) → d ≡ cross A B X → e ≡ cross A B Y → s ≡ spans by d e → t ≡ spans by e d →
     (s || t) ≡ astride by A B X Y

@@ -51,6 +51,7 @@ fn overlap(a: u16, b: u16, x: u16, y: u16) -> bool
 }
 
 // Is zero from d to e?
+#[tactic(auto, unfolding(crate::specs::inner::Test::spans))]
 fn spans(d: i64, e: i64) -> bool
     ensures { result ≡ Test.spans le_z d e }
 {
@@ -58,6 +59,7 @@ fn spans(d: i64, e: i64) -> bool
 }
 
 // Is d below zero and e above?
+#[tactic(auto, unfolding(crate::specs::inner::Test::spans))]
 fn splits(d: i64, e: i64) -> bool
     ensures { result ≡ Test.spans lt_z d e }
 {

@@ -62,6 +62,7 @@ const ALL: usize = 0x100_2001;
 
 // The worst meeting of two lines, of lines sorted by their ends. Stops with the line that has one than which none is worse; and is given up, not
 // whole, where it has compared more than `budget` and, for each line so far, 10.
+#[tactic(auto, using(crate::proofs::Grades::worst_utmost, crate::proofs::Grades::worst_more))]
 fn worst_of(lines: &[u64], budget: usize) -> Search
     requires lines_len_bound { (length lines.now ≤ 4097) × (budget ≤ 16785409) }
     requires onward { Onward (length lines.now) lines.now }

@@ -44,6 +44,7 @@ fn against(p: Point, q: Point, r: Point, s: Point) -> Meeting
 
 // The worse of a meeting and that of the line from r to s with that from p to q, whose columns are from low to high.
 // Where lines touch already, only a crossing is worse.
+#[tactic(auto, using(crate::proofs::Grades::worse_new))]
 pub fn worse_with(
     worst: Meeting,
     p: Point,

@@ -35,6 +35,7 @@ fn add_root(tally: &[u16], root: usize, k: usize, roots: &mut [u16], count: usiz
 }
 
 // Lists the other roots behind the head's, in chain order. Answers how many roots there are; 0 if a node is named more than once.
+#[tactic(auto, using(crate::proofs::Roots::note_twice))]
 fn list_others(
     table: &[u8],
     chain: &[u16],
@@ -64,6 +65,7 @@ fn list_others(
 }
 
 // Lists the roots. Answers how many they are; 0 if the head's root is named, or a node more than once.
+#[tactic(auto, using(crate::proofs::Roots::note_named))]
 pub fn list_roots(
     table: &[u8],
     chain: &[u16],

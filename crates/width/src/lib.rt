@@ -14,6 +14,7 @@ fn floor_log2(n: u64) -> u32
 }
 
 // Promised beyond this contract (promises/specs/Promises): `OneFloor`, `AtMost37`.
+#[tactic(auto, unfolding(crate::specs::Allowed::allowed_width))]
 pub fn allowed_width(n: u64) -> u64
     ensures { result ≡ allowed_width n }
 {

@@ -5,7 +5,7 @@ use mathlib.Core.List.{List}
 use Prim.Native.Nat.{ℕ, ◌+◌, ◌≤◌}
 use native.Mathlib.Omega.{arith}
 use lib.Dec.{eqb}
-use borrow.Author.Tests.{eq-eqb, ne_eqb, lt-ltb, le-ltb}
+use borrow.Author.Tests.{eq-eqb, ne_eqb, le-ltb}
 use Rattle.table.specs.Lists.{member}
 use Rattle.table.specs.Table.{word, next_of, left_of, chain as chainOf}
 use Rattle.table.specs.Refusal.{is_empty}
@@ -26,10 +26,6 @@ side-taken : (t : List ℕ) (parent side l : ℕ) → side ≤ 1 → (parent ≡
 unfolding no_place slot
 side-taken t parent side l h p m e = rw (le-ltb 1 side h, ne_eqb parent 0 p, m, e)
 
-pub returns-then-side-gt1 : goal.returns-then-side-gt1
-unfolding no_place
-returns-then-side-gt1 c = rw (lt-ltb 1 c.args.side (omega (arith, c.if-side-gt1.true)))
-
 pub next-requires : goal.next-requires
 next-requires c = (records_bounds _ c.requires.accepted).0
 
@@ -37,7 +33,7 @@ pub returns-then-next-ne0 : goal.returns-then-next-ne0
 unfolding no_place is_empty
 returns-then-next-ne0 c =
     rw (
-      le-ltb 1 c.args.side (omega (arith, c.if-side-gt1.false)),
+      le-ltb 1 c.args.side (omega arith),
       eq-eqb _ _ c.if-parent-eq0.true,
       ne_eqb _ _
           (λ e. c.if-next-ne0.true (c.next.ensures.0 ∙ e)),
@@ -48,14 +44,14 @@ left-requires c = (records_bounds _ c.requires.accepted).0
 
 pub returns-then-parent-eq0 : goal.returns-then-parent-eq0
 returns-then-parent-eq0 c =
-    no_root _ _ _ _ (omega (arith, c.if-side-gt1.false)) c.if-parent-eq0.true (sym c.next.ensures.0 ∙ c.if-next-ne0.false)
+    no_root _ _ _ _ (omega arith) c.if-parent-eq0.true (sym c.next.ensures.0 ∙ c.if-next-ne0.false)
     c.left.ensures.0
 
 pub returns-then-not-contains : goal.returns-then-not-contains
 unfolding no_place
 returns-then-not-contains c =
     rw (
-      le-ltb 1 c.args.side (omega (arith, c.if-side-gt1.false)),
+      le-ltb 1 c.args.side (omega arith),
       ne_eqb _ _ c.if-parent-eq0.false,
       sym (on_chain c.requires _ c.contains.ensures) ∙ c.if-not-contains.true,
     )
@@ -63,10 +59,10 @@ returns-then-not-contains c =
 pub word-requires : goal.word-requires
 word-requires c = (
   chained_below c.requires _ ((T_true _).1 (sym (on_chain c.requires _ c.contains.ensures) ∙ c.if-not-contains.false)),
-  omega (arith, c.if-side-gt1.false),
+  omega arith,
 )
 
 pub returns : goal.returns
 returns c =
-    side-taken _ _ _ _ (omega (arith, c.if-side-gt1.false)) c.if-parent-eq0.false
+    side-taken _ _ _ _ (omega arith) c.if-parent-eq0.false
     (sym (on_chain c.requires _ c.contains.ensures) ∙ c.if-not-contains.false) c.word.ensures.0

@@ -15,7 +15,7 @@ use Rattle.pen.specs.Strokes.{told}
 use Rattle.pen.specs.inner.Steps.{chosen}
 use Rattle.pen.proofs.LineList.{line_within}
 use Rattle.pen.proofs.Plotted.{stroke_chosen}
-use Rattle.pen.proofs.Answered.{refused, unpitched, stroked}
+use Rattle.pen.proofs.Answered.{refused, stroked}
 use Rattle.pen.proofs.stroke.Goals as goal
 
 -- So there is one for each end of a line of records.
@@ -33,28 +33,22 @@ returns-then-reading-ne0 c =
     let e = c.trace-reading.ensures.refusal in
     ap (λ (n : ℕ). told (Refused n)) e ∙ sym (refused _ _ _ _ (λ z. c.if-reading-ne0.true (e ∙ z)))
 
-pub returns-then-pitch-eq0 : goal.returns-then-pitch-eq0
-returns-then-pitch-eq0 c =
-    let accepted : let s = c.args in
-    refusal s.table.now (length s.placements.now) ≡ 0 = sym c.trace-reading.ensures.refusal ∙ c.if-reading-ne0.false in
-    sym (unpitched _ _ _ _ (accepted) c.if-pitch-eq0.true)
-
 pub line-ends-requires : goal.line-ends-requires
 line-ends-requires c =
     let accepted : let s = c.args in
     refusal s.table.now (length s.placements.now) ≡ 0 = sym c.trace-reading.ensures.refusal ∙ c.if-reading-ne0.false in
     let sound : let s = c.args in
-    (fault s.table.now ≡ 0) × (2 * records s.table.now ≤ length s.placements.now) = (refusal_none _ _).0 (accepted) in
+    (fault s.table.now ≡ 0) × (2 * records s.table.now ≤ length s.placements.now) = (refusal_none _ _).0 accepted in
     let reading = c.trace-reading in
     let r = reading.ensures.accepted c.if-reading-ne0.false in
-    nodes_of_lem (sound).0 reading.auto.chain r.nodes r.listed
+    nodes_of_lem sound.0 reading.auto.chain r.nodes r.listed
 
 pub choose-requires : goal.choose-requires
 choose-requires c =
     let accepted : let s = c.args in
     refusal s.table.now (length s.placements.now) ≡ 0 = sym c.trace-reading.ensures.refusal ∙ c.if-reading-ne0.false in
     let sound : let s = c.args in
-    (fault s.table.now ≡ 0) × (2 * records s.table.now ≤ length s.placements.now) = (refusal_none _ _).0 (accepted) in
+    (fault s.table.now ≡ 0) × (2 * records s.table.now ≤ length s.placements.now) = (refusal_none _ _).0 accepted in
     let e = sound in
     placed _ _ _ _ c.line-ends.ensures (line_within _ e.0 _) e.1
 
@@ -67,4 +61,4 @@ returns c =
     (c.choose.ensures
     ∙ ap (λ (l : Ends). chosen s.placements.now s.pitch l s.number) c.line-ends.ensures
     ∙ sym (stroke_chosen s.placements.now s.pitch s.table.now s.number))
-    ∙ sym (stroked s.table.now s.placements.now s.pitch s.number (accepted) c.if-pitch-eq0.false)
+    ∙ sym (stroked s.table.now s.placements.now s.pitch s.number accepted (λ z. omega arith))

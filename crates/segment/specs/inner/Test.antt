@@ -8,11 +8,11 @@ use Rattle.segment.specs.Segment.{at, cross}
 unfoldable pub overlap : ℕ → ℕ → ℕ → ℕ → Bool
 overlap a b x y = leb (min a b) (max x y) && leb (min x y) (max a b)
 
--- zero is from d to e (by leZ), or strictly between them (by ltZ)
+-- zero is from d to e (by le_z), or strictly between them (by lt_z)
 unfoldable pub spans : (ℤ → ℤ → Bool) → ℤ → ℤ → Bool
 spans by d e = by d (pos 0) && by (pos 0) e
 
--- X and Y are not both strictly on one side of the line through A and B (by leZ), or they are strictly on either side of it (by ltZ)
+-- X and Y are not both strictly on one side of the line through A and B (by le_z), or they are strictly on either side of it (by lt_z)
 unfoldable pub astride : (ℤ → ℤ → Bool) → Point → Point → Point → Point → Bool
 astride by A B X Y = spans by (cross A B X) (cross A B Y) || spans by (cross A B Y) (cross A B X)
 

@@ -1,5 +1,5 @@
 -- `worst_of`: line by line; all that 4,097 lines can need is never spent. Rests on Grades.
-use Rattle.sweep.proofs.Grades.{worst_none, worst_more, worst_at, worst_utmost}
+use Rattle.sweep.proofs.Grades.{worst_none, worst_more, worst_at}
 use lib.Dec.{T}
 use mathlib.Core.Path.{refl, sym, subst}
 use native.Mathlib.Omega.{arith}
@@ -7,14 +7,6 @@ use Rattle.sweep.proofs.worst_of.Goals as goal
 
 pub loop-i-init : goal.loop-i-init
 loop-i-init c = (omega arith, omega arith, omega arith, worst_none _)
-
-pub returns-then-grade-eq2 : goal.returns-then-grade-eq2
-returns-then-grade-eq2 c =
-    record {
-      worst = λ z. worst_utmost (omega arith) (omega (arith, c.if-grade-eq2.true, c.grade.ensures))
-          (worst_more c.loop-i.invariant.3 c.worst_before-found.ensures.1);
-      whole = λ z. refl;
-    }
 
 pub returns-then-left-compared : goal.returns-then-left-compared
 returns-then-left-compared c = record {

@@ -10,11 +10,8 @@ use Rattle.sweep.proofs.meeting.worse_with.Goals as goal
 pub returns-then-beside : goal.returns-then-beside
 returns-then-beside c = let a = c.requires.low_value in worse_apart _ (beside_apart a.0 a.1 (c.beside.ensures c.if-beside.true))
 
-pub returns-then-grade-eq0 : goal.returns-then-grade-eq0
-returns-then-grade-eq0 c = worse_new _ c.against.result (omega (arith, c.if-grade-eq0.true, c.grade.ensures)) c.against.ensures
-
 pub returns-then-crosses : goal.returns-then-crosses
 returns-then-crosses c = worse_new _ Crossing (worst_grade Crossing c.args.worst refl) (holds c.if-crosses.true c.crosses.ensures)
 
 pub returns : goal.returns
-returns c = worse_kept _ (λ e. omega (arith, c.if-grade-eq0.false, c.grade.ensures)) (fails c.if-crosses.false c.crosses.ensures)
+returns c = worse_kept _ (λ e. omega arith) (fails c.if-crosses.false c.crosses.ensures)

@@ -1,7 +1,7 @@
 -- `list_others` lists the roots behind the head's. The loop keeps `Noting`.
 use mathlib.Core.Path.{sym, ◌∙◌}
 use native.Mathlib.Omega.{arith}
-use Rattle.trees.proofs.Roots.{nodes_few, note_start, note_twice, note_step, note_end}
+use Rattle.trees.proofs.Roots.{nodes_few, note_start, note_step, note_end}
 use Rattle.chains.proofs.Scan.{listed_inside}
 use Rattle.trees.proofs.naming.list_others.Goals as goal
 
@@ -25,15 +25,6 @@ pub bounds-tally-k : goal.bounds-tally-k
 bounds-tally-k c =
     omega (arith, listed_inside _ _ _ _ c.requires.listed _ c.loop-i-test.true, c.requires.listed.shaped.room, c.requires.tallied.long)
 
-pub shape_of-roots-then-tally-k-gt1 : goal.shape_of-roots-then-tally-k-gt1
-shape_of-roots-then-tally-k-gt1 c =
-    c.loop-i.invariant.long ∙ sym c.requires.roots_len.0
-
-pub returns-then-tally-k-gt1 : goal.returns-then-tally-k-gt1
-returns-then-tally-k-gt1 c =
-    note_twice _ _ _ c.requires.listed _ c.requires.root_value c.requires.root_value_2 _ c.requires.tallied _ _ c.loop-i-test.true
-    (omega (arith, c.if-tally-k-gt1.true))
-
 pub add_root-count-requires : goal.add_root-count-requires
 add_root-count-requires c =
     let h = listed_inside _ _ _ _ c.requires.listed _ c.loop-i-test.true in
@@ -55,7 +46,7 @@ loop-i-smaller c = omega (arith, c.loop-i-test.true)
 pub loop-i-preserved : goal.loop-i-preserved
 loop-i-preserved c =
     note_step _ _ _ c.requires.listed _ c.requires.root_value c.requires.root_value_2 _ c.requires.tallied _ _ _ _ _
-    c.loop-i.invariant c.loop-i-test.true c.if-tally-k-gt1.false c.add_root-count.ensures.value c.add_root-count.ensures.roots_after
+    c.loop-i.invariant c.loop-i-test.true (omega arith) c.add_root-count.ensures.value c.add_root-count.ensures.roots_after
     (c.add_root-count.auto.roots ∙ c.loop-i.invariant.long)
 
 pub shape_of-roots : goal.shape_of-roots
