@@ -37,7 +37,7 @@ fn come_in(lines: &[u64], abreast: &mut [u16], m: usize, p: usize, e: usize, i: 
     requires onward { Onward (length lines.now) lines.now }
     requires places { Places (length lines.now) m abreast.old }
     requires starting { Starting p e (last (get_or lines.now i 0)) lines.now abreast.old }
-    requires e_le_m { (e ≤ m) × (m < length abreast.old) × (i < length lines.now) × (length lines.now ≤ 65535) }
+    requires room { (e ≤ m) × (m < length abreast.old) × (i < length lines.now) × (length lines.now ≤ 65535) }
     ensures { result ≡ true → Downto (length lines.now) (i + 1) i (last (get_or lines.now i 0)) m (m + p + 1 - e)
         lines.now abreast.old abreast.new }
 {

@@ -34,6 +34,14 @@ module _ (w : Width) (room : 12884508675 < 2 ^ hbits w) where
   fits_product {a = a} {b = b} {c = c} {d = d} e f i j k l =
       rw (e, f) (fits _ (diff_mul _ _ (diff_pos a b) (diff_pos c d)) (omega (arith, below i k, below j l)) (omega (arith, below i l, below j k)))
 
+  -- the same of two differences as they are read back from their bits
+  back : {z : ℤ} {a b : ℕ} → z ≡ pos a -ℤ pos b → a < 65536 → b < 65536 → to_z w (of_z w z) ≡ pos a -ℤ pos b
+  back {a = a} {b = b} e i j = to_z-of_z w _ (rw e (fits _ (diff_pos a b) (omega arith) (omega arith))) ∙ e
+
+  pub product_fits : {u v : ℤ} {a b c d : ℕ} → u ≡ pos a -ℤ pos b → v ≡ pos c -ℤ pos d → a < 65536 → b < 65536 → c < 65536 → d < 65536 →
+      SFits w (to_z w (of_z w u) *ℤ to_z w (of_z w v))
+  product_fits e f i j k l = fits_product (back e i j) (back f k l) i j k l
+
   -- the cross product as the machine computes it, from the four differences
   module _ {P A B : Point} (p : Grid P) (a : Grid A) (b : Grid B) {u v s t : ℤ} (eu : u ≡ pos A.column -ℤ pos P.column)
       (ev : v ≡ pos B.row -ℤ pos P.row)

@@ -5,9 +5,10 @@ use mathlib.Core.Bool.{Bool, true, false}
 use mathlib.Core.List.{List}
 use Prim.Native.Nat.{ℕ, ◌≤◌, ◌<◌}
 use native.Mathlib.Omega.{arith}
-use lib.ListN.{get_or}
+use lib.ListN.{get_or, length}
 use Rattle.segment.specs.declared.Point.{Point}
 use Rattle.segment.specs.declared.meeting.Meeting.{Meeting}
+use Rattle.segment.specs.declared.meeting.Meeting.TheVariants.{Separate}
 use Rattle.segment.proofs.Alike.{Alike, alike_same, alike_then, alike_back, alike_exchange, alike_turn_first, alike_transpose}
 use Rattle.segment.proofs.FourKinds.{alike_kind}
 use Rattle.sort.specs.inner.Order.{Rearranged, Ascending}
@@ -82,6 +83,10 @@ settled_ascends {b = b} e s = subst (λ (m : ℕ). Ascending last m b) (sym e) s
 
 pub seen_worst : {n k : ℕ} {a b : List ℕ} {m : Meeting} → k ≡ n → Seen n a b → Worst k b m → Worst n a m
 seen_worst {m = m} e s h = s.worst m (worst_at e h)
+
+-- Lines that are found clear, seen as they are.
+pub seen_clear : {a b : List ℕ} → Seen (length a) a b → length b ≡ length a → Worst (length b) b Separate → Worst (length a) a Separate
+seen_clear s e h = seen_worst e s h
 
 pub seen_none : (n : ℕ) (a : List ℕ) → Seen n a a
 seen_none n a = record { worst = λ m h. h }

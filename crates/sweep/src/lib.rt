@@ -126,6 +126,7 @@ pub fn surely_clear(lines: &mut [u64], scratch: &mut [u64], abreast: &mut [u16])
 }
 
 // The worst meeting of two lines, whichever way they go. Leaves them seen along an axis and sorted.
+#[tactic(auto, using(crate::proofs::Seeing::seen_clear))]
 pub fn worst_meeting(lines: &mut [u64], scratch: &mut [u64], abreast: &mut [u16]) -> Meeting
     requires { (length lines.old ≤ 4097) × (length lines.old ≤ length scratch.old) × (length lines.old ≤ length abreast.old) }
     ensures { Worst (length lines.old) lines.old result }

@@ -54,8 +54,8 @@ pub fn worse_with(
     r: Point,
     s: Point,
 ) -> Meeting
-    requires low_value { (low ≡ min p.column q.column) × (high ≡ max p.column q.column) }
-    requires s_nonzero { (s ≢ p) × (r ≡ q → s ≡ q) }
+    requires columns { (low ≡ min p.column q.column) × (high ≡ max p.column q.column) }
+    requires ends_apart { (s ≢ p) × (r ≡ q → s ≡ q) }
     ensures { WorseWith worst r s p q result }
 {
     if beside(low, high, r.column, s.column) {

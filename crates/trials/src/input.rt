@@ -1,5 +1,5 @@
 // What a case brings: its head, the bytes of a table or a name, the numbers of placements, the number of a stroke. A word is read at a time.
-ghost use Rattle.std.specs.Prelude.{◌≡◌, ◌+◌, ◌<◌, ◌≤◌, length};
+ghost use Rattle.std.specs.Prelude.{◌≡◌, ◌+◌, ◌*◌, ◌<◌, ◌≤◌, length, slice_index};
 
 use line::widened;
 use std::io::Read;
@@ -20,14 +20,15 @@ pub fn size(x: u16) -> usize
 }
 
 fn byte(x: u8) -> usize
-    ensures { result ≤ 255 }
+    ensures { (result ≡ x) × (result ≤ 255) }
 {
     x as usize
 }
 
-// The word that begins at a byte.
+// The word that begins at a byte, low byte first.
 pub fn word(bytes: &[u8], at: usize) -> u16
     requires { at + 1 < length bytes.now }
+    ensures { result ≡ slice_index bytes.now at + 256 * slice_index bytes.now (at + 1) }
 {
     (byte(bytes[at]) + 256 * byte(bytes[at + 1])) as u16
 }

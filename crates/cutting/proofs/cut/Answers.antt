@@ -14,10 +14,9 @@ examine-reading-requires c = record {
 }
 
 pub returns-then-reading-ne0 : goal.returns-then-reading-ne0
-returns-then-reading-ne0 c = record {
-  value = (cut_fault _ _ _ c.examine-reading.ensures.refusal c.if-reading-ne0.true).0;
-  table_after = (cut_fault _ _ _ c.examine-reading.ensures.refusal c.if-reading-ne0.true).1;
-}
+returns-then-reading-ne0 c =
+    let r = cut_fault _ c.args.node _ c.examine-reading.ensures.refusal c.if-reading-ne0.true in
+    record { value = r.0; table_after = r.1 }
 
 pub no_leaf-requires : goal.no_leaf-requires
 no_leaf-requires c =

@@ -1,15 +1,14 @@
 -- `hang_held` meets its contract.
 use mathlib.Core.Path.{sym, ◌∙◌}
-use Rattle.hanging.proofs.Answering.{leaf_said, refused_said, held_refused, held_moved, held_done}
+use Rattle.hanging.proofs.Answering.{leaf_said, refused_said, held_refused, held_moved}
 use borrow.Author.Rules.{rules}
 use Rattle.hanging.proofs.hang_held.Goals as goal
 
 pub returns-then-held-leaf : goal.returns-then-held-leaf
 returns-then-held-leaf c =
-    let l = leaf_said _ _ _ _ c.hold.ensures _ c.in-Leaf.is in record {
-      value = (held_moved _ _ _ _ c.args.tag l.0 (λ e. c.if-held-leaf.true (e ∙ sym l.1))).0;
-      table_after = (held_moved _ _ _ _ c.args.tag l.0 (λ e. c.if-held-leaf.true (e ∙ sym l.1))).1;
-    }
+    let l = leaf_said _ _ _ _ c.hold.ensures _ c.in-Leaf.is in
+    let r = held_moved _ _ _ _ c.args.tag l.0 (λ e. c.if-held-leaf.true (e ∙ sym l.1)) in
+    record { value = r.0; table_after = r.1 }
 
 pub hang_first-requires : goal.hang_first-requires
 hang_first-requires c =
@@ -18,18 +17,8 @@ hang_first-requires c =
       tag_bound = search rules;
     }
 
-pub returns-else-held-leaf : goal.returns-else-held-leaf
-returns-else-held-leaf c =
-    let l = leaf_said _ _ _ _ c.hold.ensures _ c.in-Leaf.is in
-    let d = held_done _ _ _ _ _ l.0 (c.if-held-leaf.false ∙ l.1) in
-    record {
-      value = d.0;
-      table_after = c.hang_first.ensures ∙ rw (c.index.ensures, c.index-in-Leaf.ensures) d.1;
-    }
-
 pub returns-in-Refused : goal.returns-in-Refused
 returns-in-Refused c =
-    let r = refused_said _ _ _ _ c.hold.ensures _ c.in-Refused.is in record {
-      value = (held_refused _ _ _ _ c.args.tag _ r.0 r.1).0;
-      table_after = (held_refused _ _ _ _ c.args.tag _ r.0 r.1).1;
-    }
+    let l = refused_said _ _ _ _ c.hold.ensures _ c.in-Refused.is in
+    let r = held_refused _ _ _ _ c.args.tag _ l.0 l.1 in
+    record { value = r.0; table_after = r.1 }

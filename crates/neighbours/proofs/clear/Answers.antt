@@ -62,7 +62,7 @@ come_in-requires c =
       places = record { room = omega arith; below = l.invariant.2.so.below };
       starting = subst (λ (t : ℕ). Starting c.place-p.result c.starting-e.result t c.args.lines.now l.abreast) (sym f.1)
           c.starting-e.ensures.1;
-      e_le_m = (omega arith, omega (arith, f.0), omega (arith, f.0), omega arith);
+      room = (omega arith, omega (arith, f.0), omega (arith, f.0), omega arith);
     }
 
 pub loop-i-smaller-then-ends_at : goal.loop-i-smaller-then-ends_at

@@ -4,8 +4,6 @@ use Prim.Native.Nat.{ℕ, ◌+◌, ◌*◌, ◌≤◌, ◌<◌}
 use native.Mathlib.Omega.{arith}
 use lib.ListN.{length}
 use borrow.Author.Rules.{rules}
-use Rattle.table.specs.Table.{records}
-use Rattle.table.specs.Refusal.{fault, refusal}
 use Rattle.records.proofs.Zeros.{blank}
 use Rattle.table.proofs.Accepted.{refusal_none}
 use Rattle.records.proofs.Nodes.{nodes_of_lem}
@@ -35,27 +33,21 @@ returns-then-reading-ne0 c =
 
 pub line-ends-requires : goal.line-ends-requires
 line-ends-requires c =
-    let accepted : let s = c.args in
-    refusal s.table.now (length s.placements.now) ≡ 0 = sym c.trace-reading.ensures.refusal ∙ c.if-reading-ne0.false in
-    let sound : let s = c.args in
-    (fault s.table.now ≡ 0) × (2 * records s.table.now ≤ length s.placements.now) = (refusal_none _ _).0 accepted in
+    let accepted = sym c.trace-reading.ensures.refusal ∙ c.if-reading-ne0.false in
+    let sound = (refusal_none c.args.table.now (length c.args.placements.now)).0 accepted in
     let reading = c.trace-reading in
     let r = reading.ensures.accepted c.if-reading-ne0.false in
     nodes_of_lem sound.0 reading.auto.chain r.nodes r.listed
 
 pub choose-requires : goal.choose-requires
 choose-requires c =
-    let accepted : let s = c.args in
-    refusal s.table.now (length s.placements.now) ≡ 0 = sym c.trace-reading.ensures.refusal ∙ c.if-reading-ne0.false in
-    let sound : let s = c.args in
-    (fault s.table.now ≡ 0) × (2 * records s.table.now ≤ length s.placements.now) = (refusal_none _ _).0 accepted in
-    let e = sound in
-    placed _ _ _ _ c.line-ends.ensures (line_within _ e.0 _) e.1
+    let accepted = sym c.trace-reading.ensures.refusal ∙ c.if-reading-ne0.false in
+    let sound = (refusal_none c.args.table.now (length c.args.placements.now)).0 accepted in
+    placed _ _ _ _ c.line-ends.ensures (line_within _ sound.0 _) sound.1
 
 pub returns : goal.returns
 returns c =
-    let accepted : let s = c.args in
-    refusal s.table.now (length s.placements.now) ≡ 0 = sym c.trace-reading.ensures.refusal ∙ c.if-reading-ne0.false in
+    let accepted = sym c.trace-reading.ensures.refusal ∙ c.if-reading-ne0.false in
     let s = c.args in
     ap told
     (c.choose.ensures

@@ -18,8 +18,8 @@ returns-then-last-first c =
 pub worse_with-worst-requires : goal.worse_with-worst-requires
 worse_with-worst-requires c =
     let below : c.loop-j.j - 1 < c.args.i = omega (arith, c.loop-j-test.true, c.loop-j.invariant.0) in record {
-      low_value = (c.least-low.ensures, c.most-high.ensures);
-      s_nonzero = ends_apart _ _ c.start-p.ensures c.end-q.ensures c.start.ensures c.end.ensures
+      columns = (c.least-low.ensures, c.most-high.ensures);
+      ends_apart = ends_apart _ _ c.start-p.ensures c.end-q.ensures c.start.ensures c.end.ensures
           (omega (arith, c.if-last-first.false, c.first.ensures, c.last.ensures))
           (c.requires.onward.onward (c.loop-j.j - 1) (omega (arith, below, c.requires.i_in_bounds)))
           (c.requires.ascending.rises (c.loop-j.j - 1) c.args.i below c.requires.i_in_bounds);

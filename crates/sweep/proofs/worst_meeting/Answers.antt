@@ -7,11 +7,6 @@ use Rattle.sweep.proofs.worst_meeting.Goals as goal
 pub returns-then-found : goal.returns-then-found
 returns-then-found c = c.search_first-found.ensures.worst c.if-found.true
 
-pub returns-then-surely_clear : goal.returns-then-surely_clear
-returns-then-surely_clear c =
-    let f = c.search_first-found in
-    seen_worst f.auto.lines f.ensures.seen (c.surely_clear.ensures.clear c.if-surely_clear.true)
-
 pub worst_of-rest-requires : goal.worst_of-rest-requires
 worst_of-rest-requires c =
     let s = c.settle in

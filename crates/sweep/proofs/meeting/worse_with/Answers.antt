@@ -8,7 +8,7 @@ use Rattle.sweep.proofs.Grades.{beside_apart, worse_apart, worse_new, worse_kept
 use Rattle.sweep.proofs.meeting.worse_with.Goals as goal
 
 pub returns-then-beside : goal.returns-then-beside
-returns-then-beside c = let a = c.requires.low_value in worse_apart _ (beside_apart a.0 a.1 (c.beside.ensures c.if-beside.true))
+returns-then-beside c = let a = c.requires.columns in worse_apart _ (beside_apart a.0 a.1 (c.beside.ensures c.if-beside.true))
 
 pub returns-then-crosses : goal.returns-then-crosses
 returns-then-crosses c = worse_new _ Crossing (worst_grade Crossing c.args.worst refl) (holds c.if-crosses.true c.crosses.ensures)

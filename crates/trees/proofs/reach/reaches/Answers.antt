@@ -6,7 +6,5 @@ use Rattle.trees.proofs.reach.reaches.Goals as goal
 pub returns : goal.returns
 returns c =
     let a = c.spread-reached in
-    record {
-      value = (ordered _ a.new.order _ _ c.requires.rooted (a.auto.order ∙ c.requires.order_len) a.ensures c.requires.nodes_value).0;
-      ordered = (ordered _ a.new.order _ _ c.requires.rooted (a.auto.order ∙ c.requires.order_len) a.ensures c.requires.nodes_value).1;
-    }
+    let r = ordered _ a.new.order _ _ c.requires.rooted (a.auto.order ∙ c.requires.order_len) a.ensures c.requires.nodes_value in
+    record { value = r.0; ordered = r.1 }
