@@ -1,30 +1,19 @@
-// The words of a table's records (`table`, specs/Table), and the numbers of records as indices.
+// The words of a table's records (`table`, specs/Table).
 ghost use Rattle.std.specs.Prelude.{◌≡◌, ◌<◌};
 ghost use Rattle.table.specs.Table.{records, word as word_of, next_of, left_of, right_of, tag_of};
 
-// A record's number, as the numbers that indices are.
-pub fn index(k: u16) -> usize
-    ensures { result ≡ k }
-{
-    k as usize
-}
-
-// A byte, as the numbers that indices are.
-fn from_byte(byte: u8) -> usize
-    ensures { (result ≡ byte) × (result < 256) }
-{
-    byte as usize
-}
-
-// Word j of record k.
+// Word j of record k. Each function here asks for a k below `records table`, as an index of a slice has its bound: a value of record and table, built
+// for one read, is no plainer. The word is a number, since the definitions `word` and `with_word` speak of one.
 pub fn word(table: &[u8], k: usize, j: usize) -> usize
     requires { (k < records table.now) × (j < 4) }
     ensures { (result ≡ word_of table.now k j) × (result < 65536) }
 {
     let at = 8 * k + 2 * j;
-    from_byte(table[at]) + 256 * from_byte(table[at + 1])
+    usize::from(u16::from_le_bytes([table[at], table[at + 1]]))
 }
 
+// The four words by the papers' names: no plainer with a number at each call. 0 for none is the C interface's, and so `next_of`, `left_of` and `right_of`
+// have it.
 pub fn next(table: &[u8], k: usize) -> usize
     requires { k < records table.now }
     ensures { (result ≡ next_of table.now k) × (result < 65536) }

@@ -1,12 +1,12 @@
 -- Lines seen along an axis: the loop, a line, and all lines with the lengths as the code has them. Rests on the laws of rearrangements.
-use mathlib.Core.Path.{◌≡◌, refl, ap, ◌∙◌, subst, subst₂}
+use mathlib.Core.Path.{◌≡◌, refl, ap, ◌∙◌, subst}
 use mathlib.Core.Logic.{inl, ⊎_swap}
-use mathlib.Core.Bool.{Bool, false}
+use mathlib.Core.Bool.{Bool}
 use mathlib.Core.List.{List}
 use Prim.Native.Nat.{ℕ, ◌+◌, ◌≤◌, ◌<◌}
 use native.Mathlib.Decide.{ℕ_discrete}
 use native.Mathlib.Omega.{arith}
-use lib.ListN.{length, length-set, get_or, set}
+use lib.ListN.{length, get_or, set}
 use lib.Seq.{get_or-set_same, get_or-set_other}
 use Rattle.segment.specs.declared.Point.{Point}
 use Rattle.segment.specs.inner.Test.{number}
@@ -19,17 +19,15 @@ use Rattle.axis.specs.inner.Arranged.{view, Joined, Arranged, Settled}
 -- ---- the loop
 
 pub record Arranging (across : Bool) (i : ℕ) (a b : List ℕ) : Type 0 where
-  pub long : length b ≡ length a
   pub done : Arranged across i a b
   pub rest : (j : ℕ) → i ≤ j → get_or b j 0 ≡ get_or a j 0
 
 pub arranging_none : (across : Bool) (a : List ℕ) → Arranging across 0 a a
-arranging_none across a = record { long = refl; done = record { line = λ i h. absurd (omega arith) }; rest = λ j h. refl }
+arranging_none across a = record { done = record { line = λ i h. absurd (omega arith) }; rest = λ j h. refl }
 
 pub arranging_more : {across : Bool} {i v : ℕ} {a b : List ℕ} → i < length b → Arranging across i a b →
     Joined (view across (start_of (get_or b i 0))) (view across (end_of (get_or b i 0))) v → Arranging across (i + 1) a (set b i v)
 arranging_more {across} {i} {v} {a} {b} h l x = record {
-  long = length-set b i v ∙ l.long;
   done = record { line = λ j k. go j k (ℕ_discrete j i) };
   rest = λ j k. get_or-set_other b i j v 0 (omega arith) ∙ l.rest j (omega arith);
 }
@@ -45,14 +43,6 @@ arranging_all {across} {a = a} {b} e l = subst (λ (k : ℕ). Arranged across k 
 pub joined_forth : {P Q : Point} {r n m : ℕ} → start_of r ≡ P → end_of r ≡ Q → n ≡ number 65536 P → m ≡ number 65536 Q → n ≤ m → Joined P Q r
 joined_forth {P} {Q} {r} p q e f h =
     record { ends = inl (p, q); onward = omega (arith, number_first r, number_last r, ap (number 65536) p, ap (number 65536) q) }
-
--- A line that goes on already, and one made anew.
-pub joined_same : (across : Bool) (k : ℕ) → across ≡ false → first k ≤ last k → Joined (view across (start_of k)) (view across (end_of k)) k
-joined_same across k e h = rw e (record { ends = inl (refl, refl); onward = h })
-
-pub joined_by : (across : Bool) (k : ℕ) {r : ℕ} {P Q R S : Point} → P ≡ start_of k → Q ≡ end_of k → R ≡ view across P → S ≡ view across Q →
-    Joined R S r → Joined (view across (start_of k)) (view across (end_of k)) r
-joined_by across k {r} p q e f x = subst₂ (λ (X Y : Point). Joined X Y r) (e ∙ ap (view across) p) (f ∙ ap (view across) q) x
 
 pub joined_back : {P Q : Point} {r : ℕ} → Joined Q P r → Joined P Q r
 joined_back x = record { ends = ⊎_swap x.ends; onward = x.onward }

@@ -5,53 +5,53 @@ ghost use Rattle.std.specs.Prelude.{◌≡◌, ◌+◌, ◌≤◌, ◌<◌, leng
 ghost use Rattle.line.specs.inner.Line.{start_of, end_of};
 ghost use Rattle.axis.specs.inner.Arranged.{view, Joined, Arranged, Settled};
 
-use line::{end, first, from_ends, last, number, start, widened};
-use segment::{Point, least, most};
+use line::{end, first, from_ends, last, number, start};
+use segment::Point;
 use sort::sort;
 
 // The line between p and q, from the one with the lesser number.
+#[tactic(auto, using(crate::proofs::Arranging::joined_forth, crate::proofs::Arranging::joined_back))]
 fn join(p: Point, q: Point) -> u64
     ensures { Joined p q result }
 {
     if number(p) <= number(q) {
-        return from_ends(p, q);
+        from_ends(p, q)
+    } else {
+        from_ends(q, p)
     }
-    from_ends(q, p)
 }
 
-// A point, with column and row exchanged or not.
+// A point, with column and row exchanged or not. Which axis is a bool, and no enum, since the definitions `view` and `Arranged` ask one.
 fn viewed(p: Point, across: bool) -> Point
     ensures { result ≡ view across p }
 {
     if across {
-        return Point {
+        Point {
             column: p.row,
             row: p.column,
-        };
+        }
+    } else {
+        p
     }
-    p
 }
 
 // A line, with columns and rows exchanged or not, from its end with the lesser number.
 fn aligned(k: u64, across: bool) -> u64
     ensures { Joined (view across (start_of k)) (view across (end_of k)) result }
 {
-    if !across {
-        if first(k) <= last(k) {
-            return k;
-        }
+    if !across && first(k) <= last(k) {
+        return k;
     }
     join(viewed(start(k), across), viewed(end(k), across))
 }
 
 // Every line so.
+#[tactic(auto, using(crate::proofs::Arranging::arranging_none, crate::proofs::Arranging::arranging_more, crate::proofs::Arranging::arranging_all))]
 fn arrange(lines: &mut [u64], across: bool)
     ensures { Arranged across (length lines.old) lines.old lines.new }
 {
-    let mut i = 0;
-    while i < lines.len() {
-        lines[i] = aligned(lines[i], across);
-        i += 1;
+    for line in lines.iter_mut() {
+        *line = aligned(*line, across);
     }
 }
 
@@ -63,53 +63,51 @@ struct Reach {
     sum: u64,
 }
 
-// With one line more, between the places a and b.
-fn reach_more(r: Reach, a: u16, b: u16) -> Reach
-    requires { r.sum < 4294967296 }
-    ensures { result.sum ≤ r.sum + 65535 }
-{
-    let low = least(a, b);
-    let high = most(a, b);
-    Reach {
-        low: least(r.low, low),
-        high: most(r.high, high),
-        sum: r.sum + widened(high) - widened(low),
-    }
-}
-
-// How far the lines reach, in rows or in columns.
-fn reach_along(lines: &[u64], across: bool) -> Reach
-    requires { length lines.now ≤ 4097 }
-    ensures { result.sum < 4294967296 }
-{
-    let mut r = Reach {
+impl Reach {
+    // How far no line reaches: each place is less than `low` or equal, and greater than `high` or equal. An Option would be asked at each line: no plainer.
+    const NONE: Reach = Reach {
         low: 65535,
         high: 0,
         sum: 0,
     };
-    let mut i = 0;
-    while i < lines.len() {
-        let k = lines[i];
-        let p = viewed(start(k), across);
-        let q = viewed(end(k), across);
-        r = reach_more(r, p.row, q.row);
-        i += 1;
-    }
-    r
-}
 
-// How many lines lie abreast, on the average.
-fn abreast(r: Reach) -> u64
-    requires { r.sum < 4294967296 }
-{
-    if r.high < r.low {
-        return 0;
+    // How far the lines reach, in rows or in columns.
+    fn along(lines: &[u64], across: bool) -> Reach
+        requires { length lines.now ≤ 4097 }
+        ensures { result.sum < 4294967296 }
+    {
+        let mut reach = Reach::NONE;
+        for &line in lines {
+            let p = viewed(start(line), across);
+            let q = viewed(end(line), across);
+            reach = reach.with(p.row, q.row);
+        }
+        reach
     }
-    r.sum / (widened(r.high) - widened(r.low) + 1)
+
+    // With one line more, between the places a and b.
+    fn with(self, a: u16, b: u16) -> Reach
+        requires { self.sum < 4294967296 }
+        ensures { result.sum ≤ self.sum + 65535 }
+    {
+        Reach {
+            low: self.low.min(a).min(b),
+            high: self.high.max(a).max(b),
+            sum: self.sum + u64::from(a.abs_diff(b)),
+        }
+    }
+
+    // How many lines lie abreast, on the average.
+    fn abreast(self) -> u64 {
+        if self.high < self.low {
+            return 0;
+        }
+        self.sum / (u64::from(self.high - self.low) + 1)
+    }
 }
 
 // Along which axis lines are searched, and whether they lie far abreast along both. Any answer is right: it decides only the time.
-#[derive(Clone, Copy)]
+#[derive(Clone, Copy, Debug, PartialEq, Eq)]
 pub struct View {
     pub across: bool,
     pub far: bool,
@@ -120,14 +118,14 @@ pub fn view_of(lines: &[u64]) -> View
     requires { length lines.now ≤ 4097 }
     ensures { Unit {0} }
 {
-    let rows = abreast(reach_along(lines, false));
+    let rows = Reach::along(lines, false).abreast();
     if rows <= 7 {
         return View {
             across: false,
             far: false,
         };
     }
-    let columns = abreast(reach_along(lines, true));
+    let columns = Reach::along(lines, true).abreast();
     View {
         across: columns < rows,
         far: 12 < columns && 12 < rows,
@@ -135,6 +133,7 @@ pub fn view_of(lines: &[u64]) -> View
 }
 
 // The lines as they are seen along an axis, sorted by their ends.
+#[tactic(auto, using(crate::proofs::Arranging::settled))]
 pub fn settle(lines: &mut [u64], scratch: &mut [u64], across: bool)
     requires { length lines.old ≤ length scratch.old }
     ensures { Settled (length lines.old) lines.old lines.new }

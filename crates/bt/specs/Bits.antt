@@ -5,7 +5,7 @@ use Rattle.segment.specs.declared.meeting.Meeting.{Meeting}
 use Rattle.segment.specs.declared.meeting.Meeting.TheVariants.{Separate, SharedEnd, Crossing, Touching}
 use Rattle.segment.specs.Meeting.{MeetSo}
 use Rattle.table.specs.Said.{Said}
-use Rattle.drawing.specs.declared.Drawn.{Drawn}
+use Rattle.drawing.specs.Answer.{Drawn}
 
 -- The drawer's: the refusal in bits 0 to 15, the nodes in bits 16 to 31, the width in bits 32 to 47, the height in bits 48 to 63.
 abbrev pub drawn_bits : Drawn → ℕ

@@ -6,14 +6,15 @@ use mathlib.Core.List.{List, [], ◌∷◌}
 use Prim.Native.Nat.{ℕ, zero, suc, ◌<◌}
 use native.Mathlib.Omega.{arith}
 use lib.Dec.{T, eqb}
-use lib.ListN.{length, get_or, take}
-use lib.Seq.{get_or-take}
+use lib.ListN.{length, get_or}
+use Rattle.std.proofs.lemmas.List.{get_or_default}
 use borrow.Author.Tests.{lt-leb, ne_eqb}
+use Rattle.std.specs.List.{list_any}
 use Rattle.table.specs.Lists.{any, member, repeats}
 use Rattle.table.specs.Table.{records, chain, free}
-use Rattle.table.specs.Refusal.{beyond, stray}
+use Rattle.table.specs.Refusal.{beyond, stray, occupied}
 use Rattle.chains.specs.inner.Listing.{Listed, Marked}
-use Rattle.table.proofs.Lists.{T_true, T_false, or_false, member_cons, any_false, Distinct}
+use Rattle.table.proofs.Lists.{T_true, T_false, or_false, member_cons, any_false, any_same, Distinct}
 use Rattle.table.proofs.Causes.{free_positive, unbroken, sound_within}
 
 -- What stands at a place is a member, and a member stands at a place.
@@ -37,17 +38,6 @@ places_differ (k ∷ ks) zero (suc j) d l m e =
     (T_false (member k ks)).1 ((or_false (member k ks) (repeats ks)).0 d).0 (subst (λ n. T (member n ks)) (sym e) (member_at ks j (omega arith)))
 places_differ (k ∷ ks) (suc i) (suc j) d l m e = places_differ ks i j ((or_false (member k ks) (repeats ks)).0 d).1 (omega arith) (omega arith) e
 
--- The same of the first n numbers of a longer list.
-module _ (list : List ℕ) {ks : List ℕ} {n : ℕ} (e : n ≡ length ks) (l : take n list ≡ ks) where
-  pub taken_at : (i : ℕ) → i < n → get_or ks i 0 ≡ get_or list i 0
-  taken_at i h = rw (sym l) (get_or-take n list i 0 h)
-
-  pub taken_member : (i : ℕ) → i < n → T (member (get_or list i 0) ks)
-  taken_member i h = rw (sym (taken_at i h)) (member_at ks i (omega arith))
-
-  pub taken_place : (k : ℕ) → T (member k ks) → (i : ℕ) × (i < n) × (get_or list i 0 ≡ k)
-  taken_place k m = let p = place k ks m in let h : p.0 < n = omega (arith, p.1) in (p.0, h, sym (taken_at p.0 h) ∙ p.2)
-
 -- A number of the list passes.
 pub any_true : (f : ℕ → Bool) (ks : List ℕ) (k : ℕ) → T (member k ks) → f k ≡ true → any f ks ≡ true
 any_true f ks k m e = go (any f ks) refl
@@ -56,24 +46,25 @@ any_true f ks k m e = go (any f ks) refl
     go true h = refl
     go false h = absurd (subst T (sym e ∙ (any_false f ks).0 h k m) tt)
 
-module _ (t ks : List ℕ) (n : ℕ) (list : List ℕ) (l : Listed t ks n list) where
-  pub listed_member : (i : ℕ) → i < n → T (member (get_or list i 0) ks)
-  listed_member = taken_member list l.nodes l.listed
+-- Of the listed records.
+module _ (t ks list : List ℕ) (l : Listed t ks list) where
+  pub listed_member : (i : ℕ) → i < length list → T (member (get_or list i 0) ks)
+  listed_member i h = rw (← l.listed) (member_at list i h)
 
-  pub listed_inside : (i : ℕ) → i < n → get_or list i 0 < records t
+  pub listed_inside : (i : ℕ) → i < length list → get_or list i 0 < records t
   listed_inside i h = (unbroken t ks l.sound).1 (get_or list i 0) (listed_member i h)
 
-  pub scan_hit : (f : ℕ → Bool) (i : ℕ) → i < n → f (get_or list i 0) ≡ true → any f ks ≡ true
+  pub scan_hit : (f : ℕ → Bool) (i : ℕ) → i < length list → f (get_or list i 0) ≡ true → any f ks ≡ true
   scan_hit f i h e = any_true f ks (get_or list i 0) (listed_member i h) e
 
-  pub scan_none : (f : ℕ → Bool) → ((i : ℕ) → i < n → f (get_or list i 0) ≡ false) → any f ks ≡ false
-  scan_none f h = (any_false f ks).1 (λ k m. let p = taken_place list l.nodes l.listed k m in ap f (sym p.2) ∙ h p.0 p.1)
+  pub scan_none : (f : ℕ → Bool) → ((i : ℕ) → i < length list → f (get_or list i 0) ≡ false) → any f ks ≡ false
+  scan_none f h = (any_false f ks).1 (λ k m. let p = place k list (rw l.listed m) in ap f (sym p.2) ∙ h p.0 p.1)
 
--- A free record is not the head.
-pub free_record : (t : List ℕ) (n : ℕ) (list : List ℕ) → Listed t (free t) n list → (i : ℕ) → i < n → get_or list i 0 ≡ 0 → ⊥
-free_record t n list l i h e = omega (arith, free_positive t (get_or list i 0) (listed_member t (free t) n list l i h))
+-- A free record is within the table.
+pub free_inside : (t list : List ℕ) → Listed t (free t) list → (k i : ℕ) → i < length list → k ≡ get_or list i k → k < records t
+free_inside t list l k i h e = rw (e ∙ get_or_default list i k 0 h) (listed_inside t (free t) list l i h)
 
-module _ (t : List ℕ) (n : ℕ) (list : List ℕ) (l : Listed t (chain t) n list) where
+module _ (t list : List ℕ) (l : Listed t (chain t) list) where
   -- A link is stray if it is not marked.
   stray_mark : (mark : List ℕ) → Marked (chain t) mark → (k : ℕ) → eqb (get_or mark k 0) 0 ≡ stray t k
   unfolding stray beyond
@@ -95,3 +86,17 @@ marked_by t mark k r n m e = e ∙ rw (m.marks k, ne_eqb k 0 n) (go (member k (c
     go : (b : Bool) → not (eqb (cond b 1 0) 0) ≡ b
     go true = refl
     go false = refl
+
+-- std's search of a list, and the one of the refusals.
+pub list_any_any : (f : ℕ → Bool) (ks : List ℕ) → list_any f ks ≡ any f ks
+unfolding any
+list_any_any f [] = refl
+list_any_any f (k ∷ ks) = ap (λ (b : Bool). f k || b) (list_any_any f ks)
+
+-- Of free records, whether one is on the chain or in use.
+pub any_taken : (t list mark : List ℕ) → Listed t (free t) list → Marked (chain t) mark →
+    list_any (λ k. not (eqb (get_or mark k 0) 0) || occupied t k) list ≡ any (λ k. member k (chain t) || occupied t k) (free t)
+any_taken t list mark l m =
+    list_any_any _ list ∙ rw l.listed
+    (any_same _ _ (free t) (λ k h. ap (λ (b : Bool). b || occupied t k)
+    (marked_by t mark k _ (λ e. omega (arith, free_positive t k h)) m refl)))

@@ -1,7 +1,7 @@
 -- The walk along the chain, or along the free records: what its loop keeps, and how it ends. Rests on Lists, Chain and Causes.
 use mathlib.Core.Path.{◌≡◌, refl, sym, ap, ◌∙◌}
 use mathlib.Core.Logic.{◌⊎◌, inl, inr, ⊎_elim, ⊎_map}
-use mathlib.Core.Bool.{Bool, true, false, cond, ◌||◌, or-true, or-false, true≢false}
+use mathlib.Core.Bool.{Bool, true, false, cond, ◌||◌, or-true, or-false}
 use mathlib.Core.List.{List, [], ◌∷◌, ◌++◌, append_assoc, append-nil}
 use Prim.Native.Nat.{ℕ, zero, suc, ◌+◌, ◌-◌, ◌≤◌, ◌<◌}
 use native.Mathlib.Nat.{sub-zero}
@@ -12,10 +12,9 @@ use lib.ListN.{length, get_or, take, set, length-set, length-append}
 use lib.Seq.{take-suc-set, length-take-le, get_or-set_same, get_or-set_other}
 use borrow.Author.Tests.{eq-eqb, ne_eqb}
 use Rattle.table.specs.Lists.{member, repeats, count}
-use Rattle.chains.specs.declared.Trail.{Trail}
 use Rattle.table.specs.Table.{records, next_of, follow, trail, chain, first_free, free}
 use Rattle.table.specs.Refusal.{broken}
-use Rattle.chains.specs.inner.Listing.{Shaped, Blank, Listed, Marked, Walked}
+use Rattle.chains.specs.inner.Listing.{Shaped, Blank, Met}
 use Rattle.table.proofs.Lists.{or_T, member_append, member_count, member_none, same, same_one, alike, Alike, count_append, Distinct, repeats_count}
 use Rattle.table.proofs.Lists.{length_between}
 use Rattle.table.proofs.Chain.{follow_none}
@@ -55,13 +54,10 @@ unfolding follow
 follow_some n t zero p = absurd (p refl)
 follow_some n t (suc k) p = refl
 
--- The records are broken if it cannot be otherwise.
-broken_off : (t : List ℕ) (k n : ℕ) (list mark : List ℕ) → (broken t (trail t k) ≡ false → ⊥) → Walked t k (record { broken = true; count = n }) list mark
-broken_off t k n list mark h = record { breaks = go (broken t (trail t k)) h; listed = λ r. absurd (true≢false r); marked = λ r. absurd (true≢false r) }
-  where
-    go : (b : Bool) → (b ≡ false → ⊥) → true ≡ b
-    go true h = refl
-    go false h = absurd (h refl)
+-- What is not false is true.
+otherwise : (b : Bool) → (b ≡ false → ⊥) → b ≡ true
+otherwise true h = refl
+otherwise false h = absurd (h refl)
 
 seen : (k : ℕ) → (k ≡ 0 → ⊥) → (b : Bool) → (◌≡◌ {A = ℕ} (cond (eqb k 0 || b) 1 0) 0 → ⊥) → T b
 seen k n true h = tt
@@ -84,18 +80,11 @@ module _ (t : List ℕ) (k i at : ℕ) (list mark : List ℕ) (w : Walk t k i at
     long : i ≤ length list
     long = omega (arith, w.room, w.list_long, shaped.room)
 
-    pub walk_end : Walked t k (record { broken = false; count = i }) list mark
+    pub walk_end : Met t (trail t k) i list mark
     walk_end = record {
-      breaks = rw sound;
-      listed =
-          λ r. record {
-            shaped = shaped;
-            sound = sound;
-            nodes = rw ended (sym (length-take-le i list long));
-            long = long;
-            listed = sym ended;
-          };
-      marked = λ r. record { long = w.mark_long; marks = rw ended w.marks };
+      room = long;
+      listed = record { shaped = shaped; sound = sound; listed = sym ended };
+      marked = record { long = w.mark_long; marks = rw ended w.marks };
     }
 
   module _ (on : at ≡ 0 → ⊥) where
@@ -106,12 +95,12 @@ module _ (t : List ℕ) (k i at : ℕ) (list mark : List ℕ) (w : Walk t k i at
     unfolding count
     one_more = rw (more, count_append) (omega (arith, same_one at at refl))
 
-    pub walk_beyond : records t ≤ at → Walked t k (record { broken = true; count = i }) list mark
-    walk_beyond b = broken_off t k i list mark (λ s. omega (arith, (unbroken t (trail t k) s).1 at ((member_count at (trail t k)).1 (omega (arith, one_more)))))
+    pub walk_beyond : records t ≤ at → broken t (trail t k) ≡ true
+    walk_beyond b = otherwise _ (λ s. omega (arith, (unbroken t (trail t k) s).1 at ((member_count at (trail t k)).1 (omega (arith, one_more)))))
 
-    pub walk_twice : (get_or mark at 0 ≡ 0 → ⊥) → Walked t k (record { broken = true; count = i }) list mark
+    pub walk_twice : (get_or mark at 0 ≡ 0 → ⊥) → broken t (trail t k) ≡ true
     walk_twice m =
-        broken_off t k i list mark
+        otherwise _
         (λ s. omega (
           arith,
           one_more,
@@ -170,17 +159,6 @@ module _ (t : List ℕ) (k i at : ℕ) (list mark : List ℕ) (w : Walk t k i at
       }
 
 -- What is walked is the chain from the head's next, and the free records from its right.
-module _ (t : List ℕ) (k : ℕ) (r : Trail) (list mark : List ℕ) (w : Walked t k r list mark) where
-  module _ (ks : List ℕ) (e : trail t k ≡ ks) where
-    pub walked_breaks : r.broken ≡ broken t ks
-    walked_breaks = rw (← e) w.breaks
-
-    pub walked_listed : r.broken ≡ false → Listed t ks r.count list
-    walked_listed z = rw (← e) (w.listed z)
-
-    pub walked_marked : r.broken ≡ false → Marked ks mark
-    walked_marked z = rw (← e) (w.marked z)
-
 pub from_next : (t : List ℕ) (k : ℕ) → k ≡ next_of t 0 → trail t k ≡ chain t
 unfolding chain
 from_next t k e = rw e

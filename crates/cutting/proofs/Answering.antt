@@ -6,9 +6,13 @@ use mathlib.Core.List.{List}
 use Prim.Native.Nat.{ℕ}
 use native.Mathlib.Omega.{arith}
 use borrow.Author.Tests.{ne_eqb}
+use Rattle.std.specs.Prelude.{Result, IsErrAnd}
+use Rattle.table.specs.declared.Refusal.{Refusal}
+use Rattle.table.specs.Cause.{number_of, refused_by}
 use Rattle.table.specs.Table.{next_of, first_free}
 use Rattle.table.specs.Refusal.{fault}
 use Rattle.table.specs.Writing.{with_word, written}
+use Rattle.table.proofs.Refused.{some_number, passed_on}
 use Rattle.table.proofs.Saying.{lent_made, lent_kept, lent_either}
 use Rattle.cutting.specs.Cutting.{no_leaf, cut_refusal, namer_of, holder, hook, cut_out, after_cut}
 
@@ -21,11 +25,12 @@ module _ (t : List ℕ) (k : ℕ) where
   unfolding after_cut
   cut_after z = lent_made (cut_refusal t k) (cut_out t k) t z
 
-  pub cut_fault : (n : ℕ) → n ≡ fault t → (n ≡ 0 → ⊥) → (n ≡ cut_refusal t k) × (t ≡ after_cut t k)
-  cut_fault n e h = (number, cut_kept (λ z. h (number ∙ z)))
+  pub cut_fault : (e : Refusal) (r : Result Unit Refusal) → IsErrAnd r (λ x. x ≡ e) → number_of e ≡ fault t →
+      (refused_by r ≡ cut_refusal t k) × (t ≡ after_cut t k)
+  cut_fault e r p n = rw (passed_on r e p) (number, cut_kept (λ z. some_number e (number ∙ z)))
     where
-      number : n ≡ cut_refusal t k
-      number = e ∙ unfold cut_refusal in rw (ne_eqb (fault t) 0 (λ q. h (e ∙ q)))
+      number : number_of e ≡ cut_refusal t k
+      number = n ∙ unfold cut_refusal in rw (ne_eqb (fault t) 0 (λ q. some_number e (n ∙ q)))
 
   pub cut_no_leaf : fault t ≡ 0 → no_leaf t k ≡ true → (9 ≡ cut_refusal t k) × (t ≡ after_cut t k)
   cut_no_leaf ok n = (number, cut_kept (λ z. omega (arith, number, z)))

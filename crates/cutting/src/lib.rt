@@ -4,37 +4,31 @@
 pub mod find;
 
 ghost use Rattle.std.specs.Prelude.{◌≡◌, ◌<◌};
+ghost use Rattle.table.specs.Cause.{refused_by};
 ghost use Rattle.table.specs.Table.{records};
 ghost use Rattle.records.specs.inner.Reading.{Nodes};
 ghost use Rattle.cutting.specs.Cutting.{no_leaf, cut_refusal, holder, hook, cut_out, after_cut};
 
 use crate::find::namer_of;
 use records::examine;
-use records::find::contains;
-use records::words::{index, left, next, right};
+use records::forest::Forest;
+use records::words::{left, next, right};
 use records::writing::set_word;
+use table::Refusal;
 
 // Cause 9 of cutting.
-fn no_leaf(table: &[u8], chain: &[u16], nodes: usize, k: usize) -> bool
-    requires { Nodes table.now nodes chain.now }
-    ensures { result ≡ no_leaf table.now k }
+fn no_leaf(forest: Forest<'_>, node: u16) -> bool
+    ensures { result ≡ no_leaf forest.entry.table.now node }
 {
-    if !contains(chain, nodes, k) {
+    let Forest { table, nodes } = forest;
+    if !nodes.contains(&node) {
         return true;
     }
-    if left(table, k) != 0 {
-        return true;
-    }
-    if right(table, k) != 0 {
-        return true;
-    }
-    if k != left(table, 0) {
-        return false;
-    }
-    1 < nodes
+    let k = usize::from(node);
+    left(table, k) != 0 || right(table, k) != 0 || (k == left(table, 0) && 1 < nodes.len())
 }
 
-// A record, and the word of it that names a leaf.
+// A record, and the word of it that names a leaf: a number, as the definition `hook` has it.
 #[derive(Clone, Copy)]
 struct Hook {
     holder: usize,
@@ -42,40 +36,42 @@ struct Hook {
 }
 
 // The record and its word that name k: its parent's link, or the head's; of the root of another tree, which none names, its own left.
-fn hook_of(table: &[u8], chain: &[u16], nodes: usize, k: usize) -> Hook
-    requires nodes { Nodes table.now nodes chain.now }
-    requires k_bound { k < records table.now }
-    ensures holder_value { (result.holder ≡ holder table.now k) × (result.holder < records table.now) }
-    ensures slot_value { (result.slot ≡ hook table.now k) × (result.slot < 3) }
+fn hook_of(forest: Forest<'_>, k: usize) -> Hook
+    requires k_bound { k < records forest.table.now }
+    ensures holder_value { (result.holder ≡ holder forest.entry.table.now k) × (result.holder < records forest.entry.table.now) }
+    ensures slot_value { (result.slot ≡ hook forest.entry.table.now k) × (result.slot < 3) }
 {
-    let on_right = namer_of(table, chain, nodes, 2, k);
+    let on_right = namer_of(forest, 2, k);
     if on_right != 0 {
         return Hook {
             holder: on_right,
             slot: 2,
         };
     }
-    let on_left = namer_of(table, chain, nodes, 1, k);
+    let on_left = namer_of(forest, 1, k);
     if on_left != 0 {
         return Hook {
             holder: on_left,
             slot: 1,
         };
     }
-    if k != left(table, 0) {
+    if k != left(forest.table, 0) {
         return Hook { holder: k, slot: 1 };
     }
     Hook { holder: 0, slot: 1 }
 }
 
 // Takes the leaf k out of the chain and out of the link that names it, and puts it first among the free records, its other words zero.
-fn cut_leaf(table: &mut [u8], chain: &[u16], nodes: usize, k: usize)
-    requires nodes { Nodes table.old nodes chain.now }
+// It takes table and nodes apart, since it writes to the table, which a `Forest` only reads.
+#[tactic(auto, using(table::proofs::Accepted::records_bounds))]
+fn cut_leaf(table: &mut [u8], nodes: &[u16], k: usize)
+    requires nodes { Nodes table.old nodes.now }
     requires k_bound { k < records table.old }
     ensures { table.new ≡ cut_out table.old k }
 {
-    let before = namer_of(table, chain, nodes, 0, k);
-    let hook = hook_of(table, chain, nodes, k);
+    let forest = Forest { table, nodes };
+    let before = namer_of(forest, 0, k);
+    let hook = hook_of(forest, k);
     let follower = next(table, k);
     let free = right(table, 0);
     set_word(table, before, 0, follower);
@@ -87,23 +83,20 @@ fn cut_leaf(table: &mut [u8], chain: &[u16], nodes: usize, k: usize)
     set_word(table, k, 3, 0);
 }
 
-// Cuts a leaf off a tree of a table: 0, or why it cannot be cut. The table is kept on a refusal.
+// Cuts a leaf off a tree of a table, or says why it cannot be cut. The table is kept on a refusal.
 // Promised beyond this contract (promises/specs/Promises): `CutsALeaf`, `CutsTheLast`, `CutRestores`, `CallsConserve`, `NeverTaken`, `OffChainCut`,
 // `OffChainAfter`.
-pub fn cut(table: &mut [u8], node: u16) -> u16
-    ensures value { result ≡ cut_refusal table.old node }
+pub fn cut(table: &mut [u8], node: u16) -> Result<(), Refusal>
+    ensures value { refused_by result ≡ cut_refusal table.old node }
     ensures table_after { table.new ≡ after_cut table.old node }
 {
     let mut chain = [0u16; 4097];
     let mut order = [0u16; 4097];
-    let reading = examine(table, &mut chain, &mut order);
-    if reading.refusal != 0 {
-        return reading.refusal;
+    let count = examine(table, &mut chain, &mut order)?;
+    let nodes = &chain[..count];
+    if no_leaf(Forest { table, nodes }, node) {
+        return Err(Refusal::Place);
     }
-    let k = index(node);
-    if no_leaf(table, &chain, reading.nodes, k) {
-        return 9;
-    }
-    cut_leaf(table, &chain, reading.nodes, k);
-    0
+    cut_leaf(table, nodes, usize::from(node));
+    Ok(())
 }

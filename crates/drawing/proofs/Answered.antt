@@ -10,7 +10,7 @@ use Rattle.table.specs.Trees.{trees}
 use Rattle.table.specs.Refusal.{refusal}
 use Rattle.table.proofs.Saying.{lent_made, lent_kept}
 use Rattle.layout.specs.Trees.{draw_trees}
-use Rattle.drawing.specs.declared.Drawn.{Drawn}
+use Rattle.drawing.specs.Answer.{Drawn}
 use Rattle.drawing.specs.Answer.{store_all, empty_plan, plan_of, drawn_of, placed_in}
 
 pub record Accepted (t p : List ℕ) : Type 0 where

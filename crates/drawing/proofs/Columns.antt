@@ -1,12 +1,12 @@
 -- Columns inwards from an edge: what is needed to go some columns inwards, or over to the other hand.
-use mathlib.Core.Path.{◌≡◌, refl, sym, subst}
-use mathlib.Core.Bool.{Bool, true, false, not}
+use mathlib.Core.Path.{◌≡◌, refl}
 use Prim.Native.Nat.{ℕ, suc, ◌+◌, ◌-◌, ◌≤◌, ◌<◌}
 use native.Mathlib.Omega.{arith}
-use lib.Dec.{T}
 use Rattle.table.specs.Table.{Side, left, right}
 use Rattle.layout.specs.Spine.{opposite}
-use Rattle.layout.specs.inner.Held.{inwards, far, Inside}
+use Rattle.layout.specs.inner.Held.{inwards, Inside}
+use Rattle.roles.specs.declared.sides.Side.{Side as CodeSide}
+use Rattle.roles.specs.declared.sides.Side.TheVariants.{Left, Right}
 use Rattle.roles.specs.Chosen.{side_of}
 
 pub inside_edge : (a : Side) (e n : ℕ) → Inside 65536 a e (suc n) → e < 65536
@@ -28,32 +28,20 @@ unfolding inwards opposite
 over_back left e w c = omega arith
 over_back right e w c = omega arith
 
--- ---- code has a side as a bool
+-- ---- sides as code has them
 
-pub side_same : (b d : Bool) → side_of b ≡ side_of d → b ≡ d
-side_same true true e = refl
-side_same false false e = refl
-side_same true false e = cc
-side_same false true e = cc
+pub side_same : (b d : CodeSide) → side_of b ≡ side_of d → b ≡ d
+side_same Left Left e = refl
+side_same Right Right e = refl
+side_same Left Right e = cc
+side_same Right Left e = cc
 
-pub inwards_right : (b : Bool) (e k : ℕ) → b ≡ true → Inside 65536 (side_of b) e (k + 1) → (k ≤ e) × ((e - k ≡ inwards (side_of b) e k) × (e - k < 65536))
+pub inwards_left : (s : Side) (e k : ℕ) → s ≡ left → Inside 65536 s e (k + 1) → (e + k < 65536) × (e + k ≡ inwards s e k)
 unfolding inwards
-inwards_right true e k h c = (omega arith, (refl, omega arith))
-inwards_right false e k h c = absurd (subst T (sym h) tt)
+inwards_left left e k h c = (omega arith, refl)
+inwards_left right e k h c = cc
 
-pub inwards_left : (b : Bool) (e k : ℕ) → b ≡ false → Inside 65536 (side_of b) e (k + 1) → (e + k < 65536) × (e + k ≡ inwards (side_of b) e k)
+pub inwards_right : (s : Side) (e k : ℕ) → s ≡ right → Inside 65536 s e (k + 1) → (k ≤ e) × ((e - k ≡ inwards s e k) × (e - k < 65536))
 unfolding inwards
-inwards_left false e k h c = (omega arith, refl)
-inwards_left true e k h c = absurd (subst T h tt)
-
-pub far_right : (b h : Bool) → b ≡ true → not h ≡ far (side_of b) (side_of h)
-unfolding far
-far_right true true e = refl
-far_right true false e = refl
-far_right false h e = absurd (subst T (sym e) tt)
-
-pub far_left : (b h : Bool) → b ≡ false → h ≡ far (side_of b) (side_of h)
-unfolding far
-far_left false true e = refl
-far_left false false e = refl
-far_left true h e = absurd (subst T e tt)
+inwards_right right e k h c = (omega arith, (refl, omega arith))
+inwards_right left e k h c = cc

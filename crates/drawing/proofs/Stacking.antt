@@ -17,7 +17,6 @@ use Rattle.table.proofs.Chain.{length_trees}
 use Rattle.records.proofs.Scan.{member_at}
 use Rattle.table.proofs.Causes.{roots_chained}
 use Rattle.table.proofs.Accepted.{records_bounds, chain_within, nodes_length, size_below, size_node}
-use Rattle.records.proofs.Children.{children_length}
 use Rattle.layout.specs.Layout.{Layout, width, height, shift}
 use Rattle.layout.specs.Spine.{facing}
 use Rattle.layout.specs.Drawing.{draw}
@@ -78,7 +77,7 @@ module _ (t : List ℕ) (ok : fault t ≡ 0) (c : Chained t (root_of t)) where
 
   module _ {p₀ p : List ℕ} {w top unplaced i : ℕ} (g : Stacking t p₀ w top unplaced i p) where
     -- Some nodes are left: so is a root.
-    pub stack_inside : 0 < unplaced → i < length (roots t)
+    stack_inside : 0 < unplaced → i < length (roots t)
     unfolding nodes_of
     stack_inside h = go (dec_lt i (length (roots t)))
       where
@@ -90,70 +89,70 @@ module _ (t : List ℕ) (ok : fault t ≡ 0) (c : Chained t (root_of t)) where
           ap (λ (ks : List ℕ). length (nodes_of (map (tree_at t) ks))) (drop_of_length-le (roots t) {i = i} (omega arith)),
         ))
 
-    pub stack_few : 0 < unplaced → i < 4096
-    stack_few h = omega (arith, stack_inside h, children_length t ok c, few_nodes t ok)
-
-    -- None is left: all trees are drawn.
-    pub stack_end : unplaced ≤ 0 → TreesDrawn t p₀ w top p
+    -- No root is left, or no node: all trees are drawn.
+    pub stack_done : length (roots t) ≤ i → TreesDrawn t p₀ w top p
     unfolding draw_from width_of height_of store_all
+    stack_done n =
+        let e : rest t i ≡ [] = ap (map (tree_at t)) (drop_of_length-le (roots t) {i = i} n) in
+        record {
+          width = omega (arith, g.wide, ap (λ (ts : List Tree). width_of (draw_from top ts)) e);
+          height = omega (arith, g.high, ap (λ (ts : List Tree). height_of (draw_from top ts)) e);
+          stored = sym (ap (λ (ts : List Tree). store_all (draw_from top ts) p) e) ∙ g.stored;
+        }
+
+    pub stack_end : unplaced ≤ 0 → TreesDrawn t p₀ w top p
     stack_end h = go (dec_lt i (length (roots t)))
       where
         go : Dec (i < length (roots t)) → TreesDrawn t p₀ w top p
         go (yes l) = absurd (omega (arith, g.left, next_size i l, some_size (get_or (roots t) i 0) (here i l)))
-        go (no n) =
-            let e : rest t i ≡ [] = ap (map (tree_at t)) (drop_of_length-le (roots t) {i = i} (omega arith)) in
-            record {
-              width = omega (arith, g.wide, ap (λ (ts : List Tree). width_of (draw_from top ts)) e);
-              height = omega (arith, g.high, ap (λ (ts : List Tree). height_of (draw_from top ts)) e);
-              stored = sym (ap (λ (ts : List Tree). store_all (draw_from top ts) p) e) ∙ g.stored;
-            }
+        go (no n) = stack_done (omega arith)
 
-    module _ (some : 0 < unplaced) (order : List ℕ) (led : Led t order) where
+    -- The next root, as the order has it.
+    module _ (some : 0 < unplaced) (order : List ℕ) (led : Led t order) (k : ℕ) (is : k ≡ get_or order i 0) where
       inside : i < length (roots t)
       inside = stack_inside some
 
-      pub stack_chained : Chained t (get_or order i 0)
-      stack_chained = rw (led.led i inside) (here i inside)
+      at_root : k ≡ get_or (roots t) i 0
+      at_root = is ∙ led.led i inside
 
-      pub stack_place : i < length order
-      stack_place = omega (arith, led.long, inside)
+      pub stack_chained : Chained t k
+      stack_chained = rw at_root (here i inside)
 
-      same_size : size (tree_at t (get_or order i 0)) ≡ size (tree_at t (get_or (roots t) i 0))
-      same_size = ap (λ (k : ℕ). size (tree_at t k)) (led.led i inside)
+      same_size : size (tree_at t k) ≡ size (tree_at t (get_or (roots t) i 0))
+      same_size = ap (λ (j : ℕ). size (tree_at t j)) at_root
 
       -- It is a record; its tree has nodes, and no more than are left, and the list says how many.
-      pub stack_record : get_or order i 0 < 4097
-      stack_record = omega (arith, chain_within t ok (get_or order i 0) stack_chained, records_bounds t ok)
+      pub stack_record : (0 < k) × (k < 4097)
+      stack_record = let within = chain_within t ok k stack_chained in (omega (arith, within), omega (arith, within, records_bounds t ok))
 
-      stack_size : (1 ≤ size (tree_at t (get_or order i 0))) × (size (tree_at t (get_or order i 0)) ≤ unplaced)
-      stack_size = (some_size (get_or order i 0) stack_chained, omega (arith, g.left, next_size i inside, same_size))
+      stack_size : (1 ≤ size (tree_at t k)) × (size (tree_at t k) ≤ unplaced)
+      stack_size = (some_size k stack_chained, omega (arith, g.left, next_size i inside, same_size))
 
-      pub stack_sized : (sizes : List ℕ) → Sized t sizes → get_or sizes (get_or order i 0) 0 ≡ size (tree_at t (get_or order i 0))
-      stack_sized sizes z = z.sized (get_or order i 0) (inr stack_chained)
+      pub stack_sized : (sizes : List ℕ) → Sized t sizes → get_or sizes k 0 ≡ size (tree_at t k)
+      stack_sized sizes z = z.sized k (inr stack_chained)
 
-      pub stack_taken : (sizes : List ℕ) → Sized t sizes → (1 ≤ get_or sizes (get_or order i 0) 0) × (get_or sizes (get_or order i 0) 0 ≤ unplaced)
+      pub stack_taken : (sizes : List ℕ) → Sized t sizes → (1 ≤ get_or sizes k 0) × (get_or sizes k 0 ≤ unplaced)
       stack_taken sizes z = rw (stack_sized sizes z) stack_size
 
       -- It may be drawn from any row down to the next one.
-      pub stack_drawable : (roles widest : List ℕ) (r : ℕ) → r ≤ top → Prepared roles widest left (tree_at t (get_or order i 0)) →
-          Drawable t roles widest left (get_or order i 0) 0 0 r
+      pub stack_drawable : (roles widest : List ℕ) (r : ℕ) → r ≤ top → Prepared roles widest left (tree_at t k) →
+          Drawable t roles widest left k 0 0 r
       stack_drawable roles widest r h q =
-          let few : size (tree_at t (get_or order i 0)) ≤ 4096 = omega (arith, size_below t ok (get_or order i 0) stack_chained, few_nodes t ok) in
+          let few : size (tree_at t k) ≤ 4096 = omega (arith, size_below t ok k stack_chained, few_nodes t ok) in
           record {
             named = inr stack_chained;
             prepared = q;
-            columns = omega (arith, width_small left (tree_at t (get_or order i 0)) few);
-            rows = omega (arith, height_size left (tree_at t (get_or order i 0)), stack_size, g.room, few_nodes t ok);
+            columns = omega (arith, width_small left (tree_at t k) few);
+            rows = omega (arith, height_size left (tree_at t k), stack_size, g.room, few_nodes t ok);
           }
 
-      pub stack_step : (sizes : List ℕ) → Sized t sizes → (v below n : ℕ) (p' : List ℕ) → v ≡ max w (width_on left (tree_at t (get_or order i 0))) →
-          SubtreeDrawn t left (get_or order i 0) 0 top p below p' → n ≡ unplaced - get_or sizes (get_or order i 0) 0 →
+      pub stack_step : (sizes : List ℕ) → Sized t sizes → (v below n : ℕ) (p' : List ℕ) → v ≡ max w (width_on left (tree_at t k)) →
+          SubtreeDrawn t left k 0 top p below p' → n ≡ unplaced - get_or sizes k 0 →
           length p' ≡ length p → Stacking t p₀ v below n (i + 1) p'
       unfolding width_on height_on facing
       stack_step sizes z v below n p' wide d e long =
-          let k = get_or (roots t) i 0 in
-          let m = led.led i inside in
-          let a = tree_at t k in
+          let m = at_root in
+          let a = tree_at t (get_or (roots t) i 0) in
           let b : below ≡ top + height (draw a) = d.ends ∙ ap (λ (j : ℕ). top + height (draw (tree_at t j))) m in
           let q : p' ≡ store (shift 0 top (draw a)) p = d.stored ∙ ap (λ (L : Layout). store L p) (ap (λ (j : ℕ). hung_at j) m ∙ hung_shift top a) in
           let x : v ≡ max w (width (draw a)) = wide ∙ ap (λ (j : ℕ). max w (width (draw (tree_at t j)))) m in
@@ -163,7 +162,7 @@ module _ (t : List ℕ) (ok : fault t ≡ 0) (c : Chained t (root_of t)) where
             stored = stored_next a (rest t (suc i)) p p' top below b q ∙ (ap (λ (ts : List Tree). store_all (draw_from top ts) p) (sym f) ∙ g.stored);
             wide = wide_next a (rest t (suc i)) w v top below b x ∙ (ap (λ (ts : List Tree). max w (width_of (draw_from top ts))) (sym f) ∙ g.wide);
             high = high_next a (rest t (suc i)) top below b ∙ (ap (λ (ts : List Tree). max top (height_of (draw_from top ts))) (sym f) ∙ g.high);
-            room = omega (arith, d.ends, height_size left (tree_at t (get_or order i 0)), e, stack_sized sizes z, stack_size, g.room);
+            room = omega (arith, d.ends, height_size left (tree_at t k), e, stack_sized sizes z, stack_size, g.room);
             long = long ∙ g.long;
           })
         where

@@ -1,6 +1,5 @@
 -- The two ends of a spine: the walk at its first node, a knee, where all of it is left; and where it has ended, and only the pending child is left.
-use mathlib.Core.Path.{◌≡◌, refl, ap, sym, subst, subst₂, ◌∙◌}
-use mathlib.Core.Bool.{Bool}
+use mathlib.Core.Path.{◌≡◌, refl, ap, sym, subst, ◌∙◌}
 use mathlib.Core.Logic.{inl}
 use mathlib.Core.List.{List, []}
 use Prim.Native.Nat.{ℕ, ◌+◌, ◌≤◌, ◌<◌}
@@ -19,6 +18,7 @@ use Rattle.layout.proofs.Sides.{hung_none, height_none, width_none}
 use Rattle.layout.proofs.Held.{inside_less, hung_inside, rooms_law, inside_fits, hung_law, bottom_law, frame_from}
 use Rattle.roles.specs.inner.Sized.{Named}
 use Rattle.roles.specs.Chosen.{side_of, code_of}
+use Rattle.roles.specs.declared.sides.Side.{Side as CodeSide}
 use Rattle.roles.specs.inner.Prepared.{Prepared, Along, no_spine, a_spine}
 use Rattle.roles.proofs.Choices.{code_small}
 use Rattle.roles.proofs.Spines.{chained}
@@ -57,25 +57,35 @@ pub column_drawn : (t roles widest : List ℕ) (s : Side) (k e c top : ℕ) → 
 column_drawn t roles widest s k e c top ok h g =
     inside_less 65536 s e (omega (arith, width_node s (tree_at t k) (some_node t ok k (named_node t k g.named h)))) g.columns
 
-pub drawable_side : (t roles widest : List ℕ) (b d : Bool) (k e c top edge : ℕ) → b ≡ d → edge ≡ inwards (side_of b) e c →
-    Drawable t roles widest (side_of b) k e c top → Drawable t roles widest (side_of d) k edge 0 top
-drawable_side t roles widest b d k e c top edge q r h = subst (λ (x : Bool). Drawable t roles widest (side_of x) k edge 0 top) q (record {
+pub drawable_side : (t roles widest : List ℕ) (s : Side) (k e c top edge : ℕ) → edge ≡ inwards s e c →
+    Drawable t roles widest s k e c top → Drawable t roles widest s k edge 0 top
+drawable_side t roles widest s k e c top edge r h = record {
   named = h.named;
   prepared = h.prepared;
-  columns = rw r (inside_less 65536 (side_of b) _ (omega arith) (hung_inside 65536 (side_of b) e c _ h.columns));
+  columns = rw r (inside_less 65536 s _ (omega arith) (hung_inside 65536 s e c _ h.columns));
   rows = h.rows;
-})
+}
 
-pub drawn_side : (t : List ℕ) (b d : Bool) (k e c top below edge : ℕ) (p p' : List ℕ) → b ≡ d → edge ≡ inwards (side_of b) e c →
-    SubtreeDrawn t (side_of d) k edge top p below p' → SubtreeDrawn t (side_of b) k (inwards (side_of b) e c) top p below p'
-drawn_side t b d k e c top below edge p p' q r h = subst₂ (λ (x : Bool) (n : ℕ). SubtreeDrawn t (side_of x) k n top p below p') (sym q) r h
+pub drawn_side : (t : List ℕ) (s : Side) (k e c top below edge : ℕ) (p p' : List ℕ) → edge ≡ inwards s e c →
+    SubtreeDrawn t s k edge top p below p' → SubtreeDrawn t s k (inwards s e c) top p below p'
+drawn_side t s k e c top below edge p p' r h = subst (λ (n : ℕ). SubtreeDrawn t s k n top p below p') r h
+
+-- A drawing on the side of a hand, when the hand is known.
+module _ {hand s : CodeSide} (e : hand ≡ s) where
+  pub drawable_hand : {t roles widest : List ℕ} {k edge c top : ℕ} → Drawable t roles widest (side_of hand) k edge c top →
+      Drawable t roles widest (side_of s) k edge c top
+  drawable_hand {t} {roles} {widest} {k} {edge} {c} {top} d = subst (λ (h : CodeSide). Drawable t roles widest (side_of h) k edge c top) e d
+
+  pub drawn_hand : {t p p' : List ℕ} {k edge top below : ℕ} → SubtreeDrawn t (side_of s) k edge top p below p' →
+      SubtreeDrawn t (side_of hand) k edge top p below p'
+  drawn_hand {t} {p} {p'} {k} {edge} {top} {below} d = subst (λ (h : CodeSide). SubtreeDrawn t (side_of h) k edge top p below p') (sym e) d
 
 -- ---- the end
 
 module _ (t roles widest : List ℕ) (w : Walk) (ended : w.at ≡ 0) where
   no_spine_left : spine_from t w ≡ []
   unfolding spine_on
-  no_spine_left = ap (spine_on (side_of w.mirrored)) (ap (tree_at t) ended ∙ tree_none t)
+  no_spine_left = ap (spine_on (side_of w.side)) (ap (tree_at t) ended ∙ tree_none t)
 
   pub bottom_end : (o : Role) → row_below t o w ≡ w.lowest + 1 + height_on (hand_at w) (tree_at t w.pending)
   unfolding bottom
@@ -104,14 +114,14 @@ spine_along : {roles widest : List ℕ} {s : Side} {k : ℕ} {a b : Tree} → Pr
     Along roles widest s knee (spine_on s (node k a b))
 spine_along (a_spine e l) = l
 
-module _ (t roles widest : List ℕ) (ok : fault t ≡ 0) (b : Bool) (root edge top : ℕ) (g : Drawable t roles widest (side_of b) root edge 0 top)
-    (node-there : 0 < root) where
+module _ (t roles widest : List ℕ) (ok : fault t ≡ 0) (b : CodeSide) (root edge top : ℕ) (g : Drawable t roles widest (side_of b) root edge 0 top)
+    (node-there : 0 < root) (W : ℕ) (at_root : W ≡ get_or widest root 0) where
   abbrev s : Side
   s = side_of b
 
   -- The walk at the first node, a knee of the hand r.
-  abbrev pub start : Bool → Walk
-  start r = record { at = root; row = top; lowest = top; pending = 0; right = r; edge = edge; widest = get_or widest root 0; mirrored = b }
+  abbrev pub start : CodeSide → Walk
+  start r = record { at = root; row = top; lowest = top; pending = 0; hand = r; edge = edge; widest = W; side = b }
 
   root_chained : Chained t root
   root_chained = named_node t root g.named node-there
@@ -122,8 +132,8 @@ module _ (t roles widest : List ℕ) (ok : fault t ≡ 0) (b : Bool) (root edge 
   some : 0 < size (tree_at t root)
   some = some_node t ok root root_chained
 
-  widest_law : get_or widest root 0 ≡ widest_on s (tree_at t root)
-  widest_law = rw tree (spine_widest (rw tree at g.prepared))
+  widest_law : W ≡ widest_on s (tree_at t root)
+  widest_law = at_root ∙ rw tree (spine_widest (rw tree at g.prepared))
 
   inside : Inside 65536 s edge (width_on s (tree_at t root))
   inside = inside_less 65536 s edge (omega arith) g.columns
@@ -138,7 +148,7 @@ module _ (t roles widest : List ℕ) (ok : fault t ≡ 0) (b : Bool) (root edge 
   root_below = omega (arith, root_role, code_small s knee)
 
   -- Its role is kept, and so its hand is the drawing's side.
-  hand_start : (r : Bool) → ((a : Side) (o : Role) → get_or roles root 0 ≡ code_of a o → side_of r ≡ a) → b ≡ r
+  hand_start : (r : CodeSide) → ((a : Side) (o : Role) → get_or roles root 0 ≡ code_of a o → side_of r ≡ a) → b ≡ r
   hand_start r h = side_same b r (sym (h s knee root_role))
 
   going_here : Going t roles widest knee (start b)
@@ -160,23 +170,23 @@ module _ (t roles widest : List ℕ) (ok : fault t ≡ 0) (b : Bool) (root edge 
   unfolding width_on
   remaining_start p =
       let fits = inside_fits 65536 s edge (draw (facing s (tree_at t root))) inside in
-      rw (tree_none t) (finished_none (get_or widest root 0) s edge knee top top _ p ∙ ap (λ (L : Layout). store L p)
+      rw (tree_none t) (finished_none W s edge knee top top _ p ∙ ap (λ (L : Layout). store L p)
       (sym (hung_law s edge _ top (tree_at t root) (rw widest_law (frame_from s edge _)) fits)))
 
   bottom_start : row_below t knee (start b) ≡ top + height_on s (tree_at t root)
   bottom_start = rw (tree_none t, height_none s) (bottom_law s top (tree_at t root) some)
 
-  module _ (r : Bool) (h : (a : Side) (o : Role) → get_or roles root 0 ≡ code_of a o → side_of r ≡ a) where
+  module _ (r : CodeSide) (h : (a : Side) (o : Role) → get_or roles root 0 ≡ code_of a o → side_of r ≡ a) where
     pub going_start : Going t roles widest knee (start r)
-    going_start = subst (λ (x : Bool). Going t roles widest knee (start x)) (hand_start r h) going_here
+    going_start = subst (λ (x : CodeSide). Going t roles widest knee (start x)) (hand_start r h) going_here
 
     pub drawn_start : (p p' : List ℕ) (below : ℕ) → (below ≡ row_below t knee (start r)) × (p' ≡ remaining t knee (start r) p) →
         SubtreeDrawn t s root edge top p below p'
     drawn_start p p' below e =
         let m = hand_start r h in
         record {
-          ends = e.0 ∙ (ap (λ (x : Bool). row_below t knee (start x)) (sym m) ∙ bottom_start);
-          stored = e.1 ∙ (ap (λ (x : Bool). remaining t knee (start x) p) (sym m) ∙ remaining_start p);
+          ends = e.0 ∙ (ap (λ (x : CodeSide). row_below t knee (start x)) (sym m) ∙ bottom_start);
+          stored = e.1 ∙ (ap (λ (x : CodeSide). remaining t knee (start x) p) (sym m) ∙ remaining_start p);
         }
 
 -- ---- on the way

@@ -1,13 +1,13 @@
 -- A walk goes one node further: a lemma for each role, from the fork of its node, with what the drawing of the hung subtrees asks. Rests on Onward.
 use mathlib.Core.Path.{◌≡◌, refl, ap, ap₂, sym, subst, subst₂, ◌∙◌}
-use mathlib.Core.Bool.{Bool, true, false}
+use mathlib.Core.Bool.{true, false}
 use mathlib.Core.Logic.{inl, inr, ⊎_elim}
 use mathlib.Core.List.{List, ◌∷◌}
 use Prim.Native.Nat.{ℕ, ◌+◌, ◌*◌, ◌-◌, ◌≤◌, ◌<◌, max}
 use native.Mathlib.Omega.{arith}
 use lib.ListN.{length, get_or}
 use Rattle.table.specs.Lists.{count}
-use Rattle.table.specs.Table.{Side, left_of, right_of, Chained}
+use Rattle.table.specs.Table.{Side, records, left_of, right_of, Chained}
 use Rattle.table.specs.Tree.{Tree, none, node, size, nodes, tree_at}
 use Rattle.table.specs.Refusal.{fault}
 use Rattle.table.proofs.Lists.{same}
@@ -20,32 +20,24 @@ use Rattle.layout.proofs.Held.{inside_less}
 use Rattle.roles.specs.inner.Sized.{Named}
 use Rattle.roles.specs.Chosen.{side_of, code_of}
 use Rattle.roles.specs.inner.Forked.{Forked}
+use Rattle.roles.specs.declared.sides.Side.{Side as CodeSide}
 use Rattle.roles.specs.inner.Prepared.{Along}
 use Rattle.roles.specs.declared.role.Role.{Role as Coded}
 use Rattle.roles.specs.inner.Roles.{is_switch, is_knee, hand_of, role_of}
 use Rattle.roles.proofs.Choices.{code_same, code_small}
 use Rattle.drawing.specs.Answer.{store}
 use Rattle.drawing.specs.declared.place.Walk.{Walk}
-use Rattle.drawing.specs.inner.Placing.{Given, Drawable, SubtreeDrawn, finished, Ready, walk_to, hand_at, Going, Stepped}
+use Rattle.drawing.specs.inner.Placing.{Drawable, SubtreeDrawn, finished, Ready, walk_to, hand_at, Going, Stepped}
 use Rattle.drawing.proofs.Shapes.{Disjoint}
 use Rattle.drawing.proofs.Columns.{inside_edge, inside_count}
 use Rattle.drawing.proofs.Onward.{knee_far, knee_near, ordinary_on, switch_over, bottom_far, bottom_near, bottom_over}
 use Rattle.drawing.proofs.Onward.{along_role, along_hung, along_next, goes_on, at_knee_room, at_ordinary_room, at_switch_width, at_switch_room}
 use Rattle.drawing.proofs.Onward.{ready_far, ready_near, ready_ordinary, ready_switch, rows_far, rows_knee, rows_ordinary, rows_switch}
 
-pub size_none : (t : List ℕ) → size (tree_at t 0) ≡ 0
-unfolding size
-size_none t = ap size (tree_none t)
-
 -- A record has its place in the placements.
-pub entry_within : (t sizes roles widest p : List ℕ) → Given t sizes roles widest p → (k : ℕ) → Named t k → 2 * k + 1 < length p
-entry_within t sizes roles widest p g k (inl e) = omega (arith, g.enough, records_bounds t g.sound)
-entry_within t sizes roles widest p g k (inr c) = omega (arith, g.enough, chain_within t g.sound k c)
-
--- Placements of the same number serve as well.
-pub given_kept : (t sizes roles widest p p' : List ℕ) → length p' ≡ length p → Given t sizes roles widest p → Given t sizes roles widest p'
-given_kept t sizes roles widest p p' e g =
-    record { sound = g.sound; sized = g.sized; long_roles = g.long_roles; long_widest = g.long_widest; enough = omega (arith, g.enough) }
+pub entry_within : (t p : List ℕ) → fault t ≡ 0 → 2 * records t ≤ length p → (k : ℕ) → Named t k → 2 * k + 1 < length p
+entry_within t p ok enough k (inl e) = omega (arith, records_bounds t ok)
+entry_within t p ok enough k (inr c) = omega (arith, chain_within t ok k c)
 
 pub drawable_as : (t roles widest : List ℕ) (s : Side) (k e c top top' : ℕ) → top' ≡ top → Drawable t roles widest s k e c top →
     Drawable t roles widest s k e c top'
@@ -76,9 +68,9 @@ ordinary_is knee e f = cc
 ordinary_is ordinary e f = refl
 ordinary_is switch e f = cc
 
-module _ (t roles widest : List ℕ) (w : Walk) (spine hung : ℕ) (h : Side) (f : Forked t (side_of w.mirrored) w.at spine hung h) where
+module _ (t roles widest : List ℕ) (w : Walk) (spine hung : ℕ) (h : Side) (f : Forked t (side_of w.side) w.at spine hung h) where
   abbrev s : Side
-  s = side_of w.mirrored
+  s = side_of w.side
 
   abbrev a : Side
   a = hand_at w
@@ -142,7 +134,7 @@ module _ (t roles widest : List ℕ) (w : Walk) (spine hung : ℕ) (h : Side) (f
   stepped_for c q e f p w' p' d o g = subst (λ (r : Role). Stepped t roles widest r w p w' p') (sym (role_is c q o e f g)) d
 
   -- From what is left at the next node, with Z pending.
-  went : (o o' : Role) (row lowest pending : ℕ) (b : Bool) (edge : ℕ) (p p' : List ℕ) (Z : Tree) → tree_at t pending ≡ Z → Named t pending →
+  went : (o o' : Role) (row lowest pending : ℕ) (b : CodeSide) (edge : ℕ) (p p' : List ℕ) (Z : Tree) → tree_at t pending ≡ Z → Named t pending →
       ((k : ℕ) → count k (nodes Z) + count k (nodes R) ≤ 1) → size Z ≤ size S + size Q →
       Ready roles widest w.widest (side_of b) edge o' lowest row Z (spine_on s R) →
       finished w.widest (side_of b) edge o' lowest row Z (spine_on s R) p' ≡
@@ -168,29 +160,29 @@ module _ (t roles widest : List ℕ) (w : Walk) (spine hung : ℕ) (h : Side) (f
 
   -- A knee, its child hung on the far side.
   pub stepped_far : (p : List ℕ) → far a h ≡ true → Going t roles widest knee w →
-      Stepped t roles widest knee w p (walk_to w spine (H + height_on a S + 1) (H + height_on a S) 0 w.right w.edge)
+      Stepped t roles widest knee w p (walk_to w spine (H + height_on a S + 1) (H + height_on a S) 0 w.hand w.edge)
       (store (hung_on a (inwards a w.edge 1) (H + 1) S) (with_point w.at w.edge w.row p))
-  stepped_far p e g = went knee _ _ _ 0 w.right w.edge p _ none (tree_none t) (inl refl) (once_none knee g) none_less
+  stepped_far p e g = went knee _ _ _ 0 w.hand w.edge p _ none (tree_none t) (inl refl) (once_none knee g) none_less
       (ready_far roles widest w.widest a w.edge _ _ w.at h S Q _ e (here knee g))
       (knee_far w.widest a w.edge _ _ w.at h S Q _ p (apart knee g) e) (bottom_far a h _ _ _ w.at S _ e)
 
   -- A knee, its child on the near side: pending.
   pub stepped_near : (p : List ℕ) → far a h ≡ false → Going t roles widest knee w →
-      Stepped t roles widest knee w p (walk_to w spine (H + 1) H hung w.right w.edge) (with_point w.at w.edge w.row p)
-  stepped_near p e g = went knee _ _ _ hung w.right w.edge p _ S refl f.named_hung (λ k. omega (arith, g.once k, counts k)) (omega arith)
+      Stepped t roles widest knee w p (walk_to w spine (H + 1) H hung w.hand w.edge) (with_point w.at w.edge w.row p)
+  stepped_near p e g = went knee _ _ _ hung w.hand w.edge p _ S refl f.named_hung (λ k. omega (arith, g.once k, counts k)) (omega arith)
       (ready_near roles widest w.widest a w.edge _ _ w.at h S Q _ e (here knee g))
       (knee_near w.widest a w.edge _ _ w.at h S Q _ p (apart knee g) e) (bottom_near a h _ _ _ w.at S _ e)
 
   pub stepped_ordinary : (p : List ℕ) → Going t roles widest ordinary w →
-      Stepped t roles widest ordinary w p (walk_to w spine (w.row + max 1 (height_on a S)) (w.row + height_on a S) w.pending w.right w.edge)
+      Stepped t roles widest ordinary w p (walk_to w spine (w.row + max 1 (height_on a S)) (w.row + height_on a S) w.pending w.hand w.edge)
       (store (hung_on a (inwards a w.edge 2) (w.row + 1) S) (with_point w.at (inwards a w.edge 1) w.row p))
   unfolding bottom
-  stepped_ordinary p g = went ordinary _ _ _ w.pending w.right w.edge p _ Q refl g.named_pending (λ k. omega (arith, g.once k, counts k))
+  stepped_ordinary p g = went ordinary _ _ _ w.pending w.hand w.edge p _ Q refl g.named_pending (λ k. omega (arith, g.once k, counts k))
       (omega arith)
       (ready_ordinary roles widest w.widest a w.edge _ _ w.at h S Q _ (here ordinary g))
       (ordinary_on w.widest a w.edge _ _ w.at h S Q _ p (apart ordinary g)) refl
 
-  pub stepped_switch : (p : List ℕ) (b : Bool) → side_of b ≡ opposite a → Going t roles widest switch w →
+  pub stepped_switch : (p : List ℕ) (b : CodeSide) → side_of b ≡ opposite a → Going t roles widest switch w →
       Stepped t roles widest switch w p (walk_to w spine (w.row + 1) (w.row + height_on a S + height_on a Q) 0 b (inwards a w.edge (w.widest + 2)))
       (store (hung_on a (inwards a w.edge 1) (w.row + height_on a S + 1) Q)
       (store (hung_on a (inwards a w.edge 1) (w.row + 1) S) (with_point w.at (inwards a w.edge 1) w.row p)))
@@ -257,26 +249,26 @@ module _ (t roles widest : List ℕ) (w : Walk) (spine hung : ℕ) (h : Side) (f
 
   pub after_far : (p p₁ p₂ : List ℕ) (low below : ℕ) (w' : Walk) → low ≡ H → p₁ ≡ with_point w.at w.edge w.row p →
       SubtreeDrawn t a hung (inwards a w.edge 1) (low + 1) p₁ below p₂ →
-      w' ≡ walk_to w spine below (below - 1) 0 w.right w.edge → far a h ≡ true → Going t roles widest knee w → Stepped t roles widest knee w p w' p₂
+      w' ≡ walk_to w spine below (below - 1) 0 w.hand w.edge → far a h ≡ true → Going t roles widest knee w → Stepped t roles widest knee w p w' p₂
   after_far p p₁ p₂ low below w' l q d v x g =
-      stepped_as knee p _ _ _ _ (v ∙ ap₂ (λ (m n : ℕ). walk_to w spine m n 0 w.right w.edge) (omega (arith, d.ends)) (omega (arith, d.ends)))
+      stepped_as knee p _ _ _ _ (v ∙ ap₂ (λ (m n : ℕ). walk_to w spine m n 0 w.hand w.edge) (omega (arith, d.ends)) (omega (arith, d.ends)))
       (d.stored ∙ cc) (stepped_far p x g)
 
   pub after_near : (p p₁ : List ℕ) (low : ℕ) (w' : Walk) → low ≡ H → p₁ ≡ with_point w.at w.edge w.row p →
-      w' ≡ walk_to w spine (low + 1) low hung w.right w.edge →
+      w' ≡ walk_to w spine (low + 1) low hung w.hand w.edge →
       far a h ≡ false → Going t roles widest knee w → Stepped t roles widest knee w p w' p₁
-  after_near p p₁ low w' l q v x g = stepped_as knee p _ _ _ _ (v ∙ ap (λ (m : ℕ). walk_to w spine (m + 1) m hung w.right w.edge) l) q (stepped_near p x g)
+  after_near p p₁ low w' l q v x g = stepped_as knee p _ _ _ _ (v ∙ ap (λ (m : ℕ). walk_to w spine (m + 1) m hung w.hand w.edge) l) q (stepped_near p x g)
 
   pub after_ordinary : (p p₁ p₂ : List ℕ) (column below next : ℕ) (w' : Walk) → column ≡ inwards a w.edge 1 → p₁ ≡ with_point w.at column w.row p →
       SubtreeDrawn t a hung (inwards a w.edge 2) (w.row + 1) p₁ below p₂ → next ≡ max (w.row + 1) (below - 1) →
-      w' ≡ walk_to w spine next (below - 1) w.pending w.right w.edge →
+      w' ≡ walk_to w spine next (below - 1) w.pending w.hand w.edge →
       Going t roles widest ordinary w → Stepped t roles widest ordinary w p w' p₂
   after_ordinary p p₁ p₂ column below next w' c q d n v g =
-      stepped_as ordinary p _ _ _ _ (v ∙ ap₂ (λ (m n : ℕ). walk_to w spine m n w.pending w.right w.edge) (omega (arith, d.ends))
+      stepped_as ordinary p _ _ _ _ (v ∙ ap₂ (λ (m n : ℕ). walk_to w spine m n w.pending w.hand w.edge) (omega (arith, d.ends))
       (omega (arith, d.ends)))
       (d.stored ∙ cc) (stepped_ordinary p g)
 
-  pub after_switch : (p p₁ p₂ p₃ : List ℕ) (column under below other : ℕ) (b : Bool) → column ≡ inwards a w.edge 1 →
+  pub after_switch : (p p₁ p₂ p₃ : List ℕ) (column under below other : ℕ) (b : CodeSide) → column ≡ inwards a w.edge 1 →
       p₁ ≡ with_point w.at column w.row p → SubtreeDrawn t a hung (inwards a w.edge 1) (w.row + 1) p₁ under p₂ →
       SubtreeDrawn t a w.pending (inwards a w.edge 1) under p₂ below p₃ → other ≡ inwards a w.edge (w.widest + 2) → side_of b ≡ opposite a →
       Going t roles widest switch w →

@@ -12,7 +12,10 @@ use Rattle.table.specs.Table.{records, root_of, chain}
 use Rattle.table.specs.Tree.{Tree, none, size, tree_at}
 use Rattle.table.specs.Trees.{roots, trees, nodes_of}
 use Rattle.table.specs.Refusal.{fault, refusal}
-use Rattle.records.specs.declared.Reading.{Reading}
+use Rattle.std.specs.Prelude.{Result, Ok, IsErrAnd}
+use Rattle.table.specs.declared.Refusal.{Refusal}
+use Rattle.table.specs.Cause.{number_of}
+use Rattle.table.proofs.Refused.{some_number, passed_on}
 use Rattle.records.specs.inner.Reading.{Traced, Read, ReadOf}
 use Rattle.table.proofs.Lists.{within_one, length_within}
 use Rattle.table.proofs.Accepted.{refusal_none, tree_none, records_bounds, chain_length, root, nodes_length}
@@ -22,8 +25,8 @@ use Rattle.layout.specs.Trees.{draw_from, draw_trees, width_of, height_of}
 use Rattle.layout.proofs.Stacked.{trees_narrow, trees_short}
 use Rattle.roles.specs.inner.Sized.{Named, Sized}
 use Rattle.drawing.specs.declared.Plan.{Plan}
-use Rattle.drawing.specs.declared.Drawn.{Drawn}
 use Rattle.drawing.specs.Answer.{store, store_all, empty_plan, plan_of, drawn_of, placed_in}
+use Rattle.drawing.specs.inner.Told.{told}
 use Rattle.drawing.specs.inner.Placing.{Led, TreesDrawn}
 use Rattle.drawing.proofs.Answered.{accepted, refused}
 
@@ -65,9 +68,9 @@ sizes_listed t n list order sizes l e = record { long = e; sized = at }
     at k (inr c) = l.sized k c
 
 -- A table that is not refused has no fault, and the placements are enough.
-pub read_accepted : (t : List ℕ) (places : ℕ) (r : Reading) (list order sizes : List ℕ) → ReadOf t places r list order sizes → r.refusal ≡ 0 →
+pub read_accepted : (t : List ℕ) (places n : ℕ) (list order sizes : List ℕ) → ReadOf t places (Ok n) list order sizes →
     (fault t ≡ 0) × (2 * records t ≤ places)
-read_accepted t places r list order sizes d e = (refusal_none t places).0 (sym d.refusal ∙ e)
+read_accepted t places n list order sizes d = (refusal_none t places).0 (sym d.refusal)
 
 -- The roots lead the order.
 first_there : (ks rs others : List ℕ) (n : ℕ) → take n ks ≡ rs ++ others → n ≤ length ks →
@@ -92,8 +95,8 @@ no_trees t ok e = ⊎_elim
     (root t ok)
 
 pub nothing_drawn : (t p : List ℕ) → refusal t (length p) ≡ 0 → fault t ≡ 0 → length (chain t) ≡ 0 →
-    (◌≡◌ {A = Drawn} (record { refusal = 0; plan = empty_plan }) (drawn_of t p)) × (p ≡ placed_in t p)
-unfolding plan_of draw_from shift width_of height_of draw drawing size width height store store_all
+    (told (Ok empty_plan) ≡ drawn_of t p) × (p ≡ placed_in t p)
+unfolding told plan_of draw_from shift width_of height_of draw drawing size width height store store_all
 nothing_drawn t p r ok e = (
   let w : width_of (draw_trees (trees t)) ≡ 0 = ap (λ (ts : List Tree). width_of (draw_trees ts)) (no_trees t ok e) in
       let h : height_of (draw_trees (trees t)) ≡ 0 = ap (λ (ts : List Tree). height_of (draw_trees ts)) (no_trees t ok e) in
@@ -103,12 +106,14 @@ nothing_drawn t p r ok e = (
 )
 
 -- A refusal, and an accepted table.
-pub refusal_drawn : (t p : List ℕ) (r : ℕ) → r ≡ refusal t (length p) → (r ≡ 0 → ⊥) →
-    (◌≡◌ {A = Drawn} (record { refusal = r; plan = empty_plan }) (drawn_of t p)) × (p ≡ placed_in t p)
-refusal_drawn t p r e n =
-    let d = refused t p (λ z. n (e ∙ z)) in
-    (ap (λ (m : ℕ). record { refusal = m; plan = empty_plan }) e ∙ sym d.drawn, sym d.after)
+pub refusal_drawn : (t p : List ℕ) (e : Refusal) (r : Result Plan Refusal) → IsErrAnd r (λ x. x ≡ e) → number_of e ≡ refusal t (length p) →
+    (told r ≡ drawn_of t p) × (p ≡ placed_in t p)
+unfolding told
+refusal_drawn t p e r passed n =
+    let d = refused t p (λ z. some_number e (n ∙ z)) in
+    (rw (passed_on r e passed) (ap (λ (m : ℕ). record { refusal = m; plan = empty_plan }) n ∙ sym d.drawn), sym d.after)
 
 pub plan_answered : (t p p' : List ℕ) (a : Plan) → refusal t (length p) ≡ 0 → (a ≡ plan_of t) × (p' ≡ store_all (draw_trees (trees t)) p) →
-    (◌≡◌ {A = Drawn} (record { refusal = 0; plan = a }) (drawn_of t p)) × (p' ≡ placed_in t p)
+    (told (Ok a) ≡ drawn_of t p) × (p' ≡ placed_in t p)
+unfolding told
 plan_answered t p p' a r d = (ap (λ (b : Plan). record { refusal = 0; plan = b }) d.0 ∙ sym (accepted t p r).drawn, d.1 ∙ sym (accepted t p r).after)

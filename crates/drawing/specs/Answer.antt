@@ -6,10 +6,11 @@ use Rattle.table.specs.Table.{records, chain, Chained}
 use Rattle.table.specs.Trees.{trees}
 use Rattle.table.specs.Refusal.{refusal}
 use Rattle.table.specs.Said.{kept_on_refusal}
+use Rattle.table.specs.Cause.{number_or_0}
 use Rattle.layout.specs.Layout.{Layout, blank, placed}
 use Rattle.layout.specs.Trees.{draw_trees, width_of, height_of}
 use Rattle.drawing.specs.declared.Plan.{Plan}
-use Rattle.drawing.specs.declared.Drawn.{Drawn}
+use Rattle.drawing.specs.declared.Drawn.{Drawn as CodeDrawn}
 
 -- "The drawer writes only the entries of chained boxes": the point of each node of a drawing
 unfoldable pub store : Layout → List ℕ → List ℕ
@@ -29,7 +30,16 @@ empty_plan = record { nodes = 0; width = 0; height = 0 }
 unfoldable pub plan_of : List ℕ → Plan
 plan_of t = record { nodes = length (chain t); width = width_of (draw_trees (trees t)); height = height_of (draw_trees (trees t)) }
 
--- The refusal and the plan: the empty plan on a refusal.
+-- The drawer's answer in the paper's numbers: a refusal and the empty plan, or 0 and the plan.
+pub record Drawn : Type 0 where
+  pub refusal : ℕ
+  pub plan : Plan
+
+-- What the answer of the call says.
+unfoldable pub said : CodeDrawn → Drawn
+said d = record { refusal = number_or_0 d.refusal; plan = d.plan }
+
+-- What it has to say: the refusal and the plan, the empty plan on a refusal.
 unfoldable pub drawn_of : List ℕ → List ℕ → Drawn
 drawn_of t p = elim (eqb (refusal t (length p)) 0) [
   | true ↦ record { refusal = 0; plan = plan_of t }

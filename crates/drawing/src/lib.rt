@@ -2,22 +2,23 @@
 #![tactic(auto)]
 
 mod place;
+mod spines;
 
 ghost use Rattle.std.specs.Prelude.{◌≡◌, ◌*◌, ◌≤◌, length};
 ghost use Rattle.table.specs.Table.{records, root_of, chain as chainOf, Chained};
 ghost use Rattle.table.specs.Trees.{trees};
-ghost use Rattle.table.specs.Refusal.{fault};
 ghost use Rattle.layout.specs.Trees.{draw_trees};
-ghost use Rattle.roles.specs.inner.Sized.{Sized};
-ghost use Rattle.drawing.specs.Answer.{store_all, plan_of, drawn_of, placed_in};
+ghost use Rattle.drawing.specs.Answer.{store_all, plan_of, said, drawn_of, placed_in};
 ghost use Rattle.drawing.specs.inner.Placing.{Led, TreesDrawn};
+ghost use Rattle.drawing.specs.inner.Told.{told};
 
-use crate::place::draw_tree;
+use crate::spines::Spines;
 use records::read;
-use roles::{most, prepare};
+use roles::{Subtrees, prepare};
+use table::Refusal;
 
 // The extent of a drawing.
-#[derive(Clone, Copy)]
+#[derive(Clone, Copy, Debug, PartialEq, Eq)]
 pub struct Plan {
     pub nodes: u16,
     pub width: u16,
@@ -25,19 +26,12 @@ pub struct Plan {
 }
 
 impl Plan {
-    // What every refusal of the drawer returns.
+    // Of the empty tree; and what every refusal of the drawer returns.
     pub const EMPTY: Plan = Plan {
         nodes: 0,
         width: 0,
         height: 0,
     };
-}
-
-// The drawer's answer: a refusal and the empty plan, or 0 and the plan.
-#[derive(Clone, Copy)]
-pub struct Drawn {
-    pub refusal: u16,
-    pub plan: Plan,
 }
 
 // The extent of trees that are drawn one under the other: their width, and the first row below them.
@@ -48,60 +42,61 @@ struct Extent {
 }
 
 // The trees one under the other, from the roots that lead the order: of each the roles and W of every spine first, then the points (document 02, Paper 3),
-// until no node is left. Lists are lent for the roles and for W.
+// until no node is left: how many roots there are is not told, so the nodes are counted down. Lists are lent for the roles and for W.
+#[tactic(auto, using(crate::proofs::Stacking::stack_end))]
 fn draw_trees(
-    table: &[u8],
-    sizes: &[u16],
+    subtrees: Subtrees<'_>,
     order: &[u16],
-    roles: &mut [u16],
-    widest: &mut [u16],
+    roles: &mut [u16; 4097],
+    widest: &mut [u16; 4097],
     placements: &mut [u16],
     nodes: usize,
 ) -> Extent
-    requires table_value { fault table.now ≡ 0 }
-    requires chained { Chained table.now (root_of table.now) }
-    requires sized { Sized table.now sizes.now }
-    requires led { Led table.now order.now }
-    requires roles_len { (length roles.old ≡ 4097) × (length widest.old ≡ 4097) }
-    requires table_in_bounds { 2 * records table.now ≤ length placements.old }
-    requires nodes_value { nodes ≡ length (chainOf table.now) }
-    ensures { TreesDrawn table.now placements.old result.width result.height placements.new }
+    requires chained { Chained subtrees.table.now (root_of subtrees.table.now) }
+    requires led { Led subtrees.table.now order.now }
+    requires table_in_bounds { 2 * records subtrees.table.now ≤ length placements.old }
+    requires nodes_value { nodes ≡ length (chainOf subtrees.table.now) }
+    ensures { TreesDrawn subtrees.entry.table.now placements.old result.width result.height placements.new }
 {
     let mut width = 0;
     let mut top = 0;
     let mut unplaced = nodes;
-    let mut i = 0;
-    while 0 < unplaced {
-        let root = order[i] as usize;
-        width = most(width, prepare(table, sizes, roles, widest, root));
-        top = draw_tree(table, sizes, roles, widest, placements, root, top);
-        unplaced -= sizes[root] as usize;
-        i += 1;
+    for &root in order {
+        if unplaced == 0 {
+            break;
+        }
+        let root = usize::from(root);
+        width = prepare(subtrees, roles, widest, root).max(width);
+        let mut spines = Spines {
+            subtrees,
+            roles,
+            widest,
+            points: placements,
+        };
+        top = spines.draw_left(root, 0, top);
+        unplaced -= usize::from(subtrees.sizes[root]);
     }
     Extent { width, height: top }
 }
 
-// The plan of an accepted table that has nodes. A list is lent for the roles.
+// The plan of an accepted table that has nodes. A list is lent for the roles. Order and nodes stand apart, as the clauses `led` and `nodes_value` have them.
 pub fn plan_of(
-    table: &[u8],
-    sizes: &[u16],
+    subtrees: Subtrees<'_>,
     order: &[u16],
-    roles: &mut [u16],
+    roles: &mut [u16; 4097],
     placements: &mut [u16],
     nodes: usize,
 ) -> Plan
-    requires table_value { fault table.now ≡ 0 }
-    requires chained { Chained table.now (root_of table.now) }
-    requires sized { Sized table.now sizes.now }
-    requires led { Led table.now order.now }
-    requires roles_len { length roles.old ≡ 4097 }
-    requires table_in_bounds { 2 * records table.now ≤ length placements.old }
-    requires nodes_value { nodes ≡ length (chainOf table.now) }
-    ensures { (result ≡ plan_of table.now)
-        × (placements.new ≡ store_all (draw_trees (trees table.now)) placements.old) }
+    requires chained { Chained subtrees.table.now (root_of subtrees.table.now) }
+    requires led { Led subtrees.table.now order.now }
+    requires table_in_bounds { 2 * records subtrees.table.now ≤ length placements.old }
+    requires nodes_value { nodes ≡ length (chainOf subtrees.table.now) }
+    ensures { (result ≡ plan_of subtrees.entry.table.now)
+        × (placements.new ≡ store_all (draw_trees (trees subtrees.entry.table.now)) placements.old) }
 {
     let mut widest = [0u16; 4097];
-    let extent = draw_trees(table, sizes, order, roles, &mut widest, placements, nodes);
+    let extent = draw_trees(subtrees, order, roles, &mut widest, placements, nodes);
+    // Each of the three fits, by proof; `try_from`, and an `unwrap` that cannot fail, would be no plainer.
     Plan {
         nodes: nodes as u16,
         width: extent.width as u16,
@@ -109,29 +104,50 @@ pub fn plan_of(
     }
 }
 
-// Draws the trees of a table: its refusal and plan, and the placements of its nodes. All placements are kept on a refusal.
-// Promised beyond this contract (promises/specs/Promises): `AcceptedIsGood`, `AtMost37`, `RootsBelow`, `RowsNotShared`, `RulerCovers`, `RowsFilled`,
-// `EveryNodeOnASpine`, `DrawnBySteps`, `FlipsWhole`, `PlainKeepsOthers`, `OffChainPlain`, `StarredSheets`, `PlanAsFirst`, `PlanAsBefore`.
-pub fn draw(table: &[u8], placements: &mut [u16]) -> Drawn
-    ensures { (result ≡ drawn_of table.now placements.old)
+// The trees of a table drawn: their plan, or why the table is refused, and the placements of the nodes.
+fn try_draw(table: &[u8], placements: &mut [u16]) -> Result<Plan, Refusal>
+    ensures { (told result ≡ drawn_of table.now placements.old)
         × (placements.new ≡ placed_in table.now placements.old) }
 {
     let mut chain = [0u16; 4097];
     let mut order = [0u16; 4097];
     let mut sizes = [0u16; 4097];
-    let reading = read(table, placements.len(), &mut chain, &mut order, &mut sizes);
-    if reading.refusal != 0 {
-        return Drawn {
-            refusal: reading.refusal,
-            plan: Plan::EMPTY,
-        };
+    let nodes = read(table, placements.len(), &mut chain, &mut order, &mut sizes)?;
+    if nodes == 0 {
+        return Ok(Plan::EMPTY);
     }
-    if reading.nodes == 0 {
-        return Drawn {
-            refusal: 0,
+    let subtrees = Subtrees {
+        table,
+        sizes: &sizes,
+    };
+    // The chain's list is lent again, for the roles.
+    let plan = plan_of(subtrees, &order, &mut chain, placements, nodes);
+    Ok(plan)
+}
+
+// The drawer's answer: the plan, and the cause of refusal, if there is one; then the plan is the empty one, as document 01 asks (so no `Result`).
+#[derive(Clone, Copy, Debug, PartialEq, Eq)]
+pub struct Drawn {
+    pub refusal: Option<Refusal>,
+    pub plan: Plan,
+}
+
+// Draws the trees of a table: its refusal and plan, and the placements of its nodes. All placements are kept on a refusal.
+// Promised beyond this contract (promises/specs/Promises): `AcceptedIsGood`, `AtMost37`, `RootsBelow`, `RowsNotShared`, `RulerCovers`, `RowsFilled`,
+// `EveryNodeOnASpine`, `DrawnBySteps`, `FlipsWhole`, `PlainKeepsOthers`, `OffChainPlain`, `StarredSheets`, `PlanAsFirst`, `PlanAsBefore`.
+#[tactic(auto, unfolding(crate::specs::Answer::said, crate::specs::inner::Told::told))]
+pub fn draw(table: &[u8], placements: &mut [u16]) -> Drawn
+    ensures { (said result ≡ drawn_of table.now placements.old)
+        × (placements.new ≡ placed_in table.now placements.old) }
+{
+    match try_draw(table, placements) {
+        Ok(plan) => Drawn {
+            refusal: None,
+            plan,
+        },
+        Err(refusal) => Drawn {
+            refusal: Some(refusal),
             plan: Plan::EMPTY,
-        };
+        },
     }
-    let plan = plan_of(table, &sizes, &order, &mut chain, placements, reading.nodes);
-    Drawn { refusal: 0, plan }
 }

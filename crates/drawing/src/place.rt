@@ -4,305 +4,212 @@
 ghost use Rattle.std.specs.Prelude.{◌≡◌, ◌+◌, ◌<◌};
 ghost use Rattle.table.specs.Table.{left, right};
 ghost use Rattle.layout.specs.Spine.{Role as LayoutRole, knee, ordinary, switch};
-ghost use Rattle.layout.specs.inner.Held.{inwards as inwardsOf, far, Inside};
+ghost use Rattle.layout.specs.inner.Held.{inwards as inwardsOf, Inside};
 ghost use Rattle.roles.specs.Chosen.{side_of};
 ghost use Rattle.roles.specs.inner.Forked.{Forked};
-ghost use Rattle.drawing.specs.inner.Placing.{hand_at, walk_to, Given, Drawable, SubtreeDrawn, Going, Stepped};
+ghost use Rattle.drawing.specs.inner.Placing.{Kept, hand_at as hand_of, walk_to, Drawable, SubtreeDrawn, Going, Stepped};
 
+use crate::spines::Spines;
 use placements::set_point;
-use roles::role::{is_knee, is_right_at, is_switch, role_at};
-use roles::{Fork, fork_at, most};
+use roles::Fork;
+use roles::role::{hand_at, role_at};
+use roles::sides::Side;
 
-// A walk along the spine of a drawing: the next node and its row, the lowest row used so far, the pending child, 0 for none; the hand that the node
-// is on, by its role, and that hand's edge; W of the spine, and whether its drawing is on the right side.
+// A walk along the spine of a drawing: the next node and its row, the lowest row used so far, the pending child, 0 for none (`Named`); the hand that the node
+// is on, by its role, and that hand's edge; W of the spine, and the side that its drawing is on.
 #[derive(Clone, Copy)]
 pub struct Walk {
     pub at: usize,
     pub row: usize,
     pub lowest: usize,
     pub pending: usize,
-    pub right: bool,
+    pub hand: Side,
     pub edge: usize,
     pub widest: usize,
-    pub mirrored: bool,
+    pub side: Side,
 }
 
-// 004, Step 6(d); 01, step 7: k columns inwards from the edge of a hand.
-fn inwards(right: bool, edge: usize, k: usize) -> usize
-    requires { Inside 65536 (side_of right) edge (k + 1) }
-    ensures { (result ≡ inwardsOf (side_of right) edge k) × (result < 65536) }
-{
-    if right { edge - k } else { edge + k }
-}
+impl Walk {
+    // The walk at the next node, on the same hand.
+    fn onward(self, at: usize, row: usize, lowest: usize, pending: usize) -> Walk
+        ensures { result ≡ walk_to self at row lowest pending self.hand self.edge }
+    {
+        Walk {
+            at,
+            row,
+            lowest,
+            pending,
+            ..self
+        }
+    }
 
-// 004, Step 6(d); 01, step 7: whether a hung child is on the far side of a hand, which for the left hand is the right.
-fn is_far(right: bool, hung_right: bool) -> bool
-    ensures { result ≡ far (side_of right) (side_of hung_right) }
-{
-    if right { !hung_right } else { hung_right }
-}
-
-// The walk at the next node, on the same hand.
-fn onward(w: Walk, at: usize, row: usize, lowest: usize, pending: usize) -> Walk
-    ensures { result ≡ walk_to w at row lowest pending w.right w.edge }
-{
-    Walk {
-        at,
-        row,
-        lowest,
-        pending,
-        right: w.right,
-        edge: w.edge,
-        widest: w.widest,
-        mirrored: w.mirrored,
+    // 004, Step 6(d); 01, step 7: so many columns inwards from the edge of its hand.
+    fn inwards(self, columns: usize) -> usize
+        requires { Inside 65536 (hand_of self) self.edge (columns + 1) }
+        ensures { (result ≡ inwardsOf (hand_of self) self.edge columns) × (result < 65536) }
+    {
+        match self.hand {
+            Side::Left => self.edge + columns,
+            Side::Right => self.edge - columns,
+        }
     }
 }
 
-// 004, Step 6(a); 01, step 4: a child hung on the far side is drawn below all so far, and the next node is below it; one on the near side is pending.
-#[cycle(at_knee_at_ordinary_at_switch_draw_hung_draw_left_draw_right_draw_spine_step)]
-fn at_knee(
-    table: &[u8],
-    sizes: &[u16],
-    roles: &[u16],
-    widest: &[u16],
-    points: &mut [u16],
-    fork: Fork,
-    w: Walk,
-) -> Walk
-    requires given { Given table.now sizes.now roles.now widest.now points.old }
-    requires going { Going table.now roles.now widest.now knee w }
-    requires forked { Forked table.now (side_of w.mirrored) w.at fork.spine fork.hung (side_of fork.hung_right) }
-    ensures { Stepped table.now roles.now widest.now knee w
-        points.old result points.new }
-{
-    set_point(points, w.at, w.edge, w.row);
-    let lowest = most(w.lowest, w.row);
-    let row = lowest + 1;
-    if is_far(w.right, fork.hung_right) {
-        let below = draw_hung(table, sizes, roles, widest, points, w, fork.hung, 1, row);
-        return onward(w, fork.spine, below, below - 1, 0);
+// Each of the three steps is handed the fork at its node (`forked`), which is looked up once, in `step`: to look it up in each would be no plainer.
+// Each function says what it keeps (`Kept`), since `&mut self` lends every field.
+impl Spines<'_> {
+    // 004, Step 6(a); 01, step 4: a child hung on the far side is drawn below all so far, and the next node is below it; one on the near side is pending.
+    #[cycle(spines)]
+    #[tactic(auto, using(crate::proofs::Walking::entry_within))]
+    fn at_knee(&mut self, fork: Fork, walk: Walk) -> Walk
+        requires going { Going self.old.subtrees.table.now self.old.roles.now self.old.widest.now knee walk }
+        requires forked { Forked self.old.subtrees.table.now (side_of walk.side) walk.at fork.spine fork.hung (side_of fork.side) }
+        ensures kept { Kept self.old self.new }
+        ensures stepped { Stepped self.old.subtrees.table.now self.old.roles.now self.old.widest.now knee walk
+            self.old.points.now result self.new.points.now }
+    {
+        set_point(self.points, walk.at, walk.edge, walk.row);
+        let lowest = walk.lowest.max(walk.row);
+        let row = lowest + 1;
+        if fork.side.is_far(walk.hand) {
+            let below = self.draw_hung(walk, fork.hung, 1, row);
+            return walk.onward(fork.spine, below, below - 1, 0);
+        }
+        walk.onward(fork.spine, row, lowest, fork.hung)
     }
-    onward(w, fork.spine, row, lowest, fork.hung)
-}
 
-// 004, Step 6(b); 01, step 5: the next node is on the bottom row of the hung drawing, or one row lower.
-#[cycle(at_knee_at_ordinary_at_switch_draw_hung_draw_left_draw_right_draw_spine_step)]
-fn at_ordinary(
-    table: &[u8],
-    sizes: &[u16],
-    roles: &[u16],
-    widest: &[u16],
-    points: &mut [u16],
-    fork: Fork,
-    w: Walk,
-) -> Walk
-    requires given { Given table.now sizes.now roles.now widest.now points.old }
-    requires going { Going table.now roles.now widest.now ordinary w }
-    requires forked { Forked table.now (side_of w.mirrored) w.at fork.spine fork.hung (side_of fork.hung_right) }
-    ensures { Stepped table.now roles.now widest.now ordinary w
-        points.old result points.new }
-{
-    set_point(points, w.at, inwards(w.right, w.edge, 1), w.row);
-    let row = w.row + 1;
-    let below = draw_hung(table, sizes, roles, widest, points, w, fork.hung, 2, row);
-    let lowest = below - 1;
-    onward(w, fork.spine, most(row, lowest), lowest, w.pending)
-}
-
-// 004, Step 6(c); 01, step 6: what is pending goes under the hung drawing, and the next node, a knee by its role, is at the edge of its own hand.
-#[cycle(at_knee_at_ordinary_at_switch_draw_hung_draw_left_draw_right_draw_spine_step)]
-fn at_switch(
-    table: &[u8],
-    sizes: &[u16],
-    roles: &[u16],
-    widest: &[u16],
-    points: &mut [u16],
-    fork: Fork,
-    w: Walk,
-) -> Walk
-    requires given { Given table.now sizes.now roles.now widest.now points.old }
-    requires going { Going table.now roles.now widest.now switch w }
-    requires forked { Forked table.now (side_of w.mirrored) w.at fork.spine fork.hung (side_of fork.hung_right) }
-    ensures { Stepped table.now roles.now widest.now switch w
-        points.old result points.new }
-{
-    set_point(points, w.at, inwards(w.right, w.edge, 1), w.row);
-    let row = w.row + 1;
-    let foot = draw_hung(table, sizes, roles, widest, points, w, fork.hung, 1, row);
-    let below = draw_hung(table, sizes, roles, widest, points, w, w.pending, 1, foot);
-    let lowest = below - 1;
-    let edge = inwards(w.right, w.edge, w.widest + 2);
-    let right = is_right_at(roles, fork.spine);
-    Walk {
-        at: fork.spine,
-        row,
-        lowest,
-        pending: 0,
-        right,
-        edge,
-        widest: w.widest,
-        mirrored: w.mirrored,
+    // 004, Step 6(b); 01, step 5: the next node is on the bottom row of the hung drawing, or one row lower.
+    #[cycle(spines)]
+    #[tactic(auto, using(crate::proofs::Walking::entry_within))]
+    fn at_ordinary(&mut self, fork: Fork, walk: Walk) -> Walk
+        requires going { Going self.old.subtrees.table.now self.old.roles.now self.old.widest.now ordinary walk }
+        requires forked { Forked self.old.subtrees.table.now (side_of walk.side) walk.at fork.spine fork.hung (side_of fork.side) }
+        ensures kept { Kept self.old self.new }
+        ensures stepped { Stepped self.old.subtrees.table.now self.old.roles.now self.old.widest.now ordinary walk
+            self.old.points.now result self.new.points.now }
+    {
+        set_point(self.points, walk.at, walk.inwards(1), walk.row);
+        let row = walk.row + 1;
+        let below = self.draw_hung(walk, fork.hung, 2, row);
+        let lowest = below - 1;
+        walk.onward(fork.spine, row.max(lowest), lowest, walk.pending)
     }
-}
 
-// 004, Step 6; 01, steps 4 to 7: one node of a spine, it and what hangs from it, or was pending, by its role.
-#[cycle(at_knee_at_ordinary_at_switch_draw_hung_draw_left_draw_right_draw_spine_step)]
-fn step(
-    table: &[u8],
-    sizes: &[u16],
-    roles: &[u16],
-    widest: &[u16],
-    points: &mut [u16],
-    w: Walk,
-) -> Walk
-    requires given { Given table.now sizes.now roles.now widest.now points.old }
-    requires going { (o : LayoutRole) × Going table.now roles.now widest.now o w }
-    requires at_nonzero { 0 < w.at }
-    ensures { (o : LayoutRole) → Going table.now roles.now widest.now o w
-        → Stepped table.now roles.now widest.now o w points.old result points.new }
-{
-    let fork = fork_at(table, sizes, w.at, w.mirrored);
-    let role = role_at(roles, w.at);
-    if is_knee(role) {
-        return at_knee(table, sizes, roles, widest, points, fork, w);
+    // 004, Step 6(c); 01, step 6: what is pending goes under the hung drawing, and the next node, a knee by its role, is at the edge of its own hand.
+    #[cycle(spines)]
+    #[tactic(auto, using(crate::proofs::Walking::entry_within, roles::proofs::Forks::named_within))]
+    fn at_switch(&mut self, fork: Fork, walk: Walk) -> Walk
+        requires going { Going self.old.subtrees.table.now self.old.roles.now self.old.widest.now switch walk }
+        requires forked { Forked self.old.subtrees.table.now (side_of walk.side) walk.at fork.spine fork.hung (side_of fork.side) }
+        ensures kept { Kept self.old self.new }
+        ensures stepped { Stepped self.old.subtrees.table.now self.old.roles.now self.old.widest.now switch walk
+            self.old.points.now result self.new.points.now }
+    {
+        set_point(self.points, walk.at, walk.inwards(1), walk.row);
+        let roles = self.roles;
+        let hand = hand_at(roles, fork.spine);
+        let row = walk.row + 1;
+        let foot = self.draw_hung(walk, fork.hung, 1, row);
+        let below = self.draw_hung(walk, walk.pending, 1, foot);
+        Walk {
+            at: fork.spine,
+            row,
+            lowest: below - 1,
+            pending: 0,
+            hand,
+            edge: walk.inwards(walk.widest + 2),
+            ..walk
+        }
     }
-    if is_switch(role) {
-        return at_switch(table, sizes, roles, widest, points, fork, w);
+
+    // 004, Step 6; 01, steps 4 to 7: one node of a spine, it and what hangs from it, or was pending, by its role. Tests and no match, since placing names no
+    // role (docs/GROUNDS.md, "That placing chooses none").
+    #[cycle(spines)]
+    fn step(&mut self, walk: Walk) -> Walk
+        requires going { (o : LayoutRole) × Going self.old.subtrees.table.now self.old.roles.now self.old.widest.now o walk }
+        requires at_nonzero { 0 < walk.at }
+        ensures kept { Kept self.old self.new }
+        ensures stepped { (o : LayoutRole) → Going self.old.subtrees.table.now self.old.roles.now self.old.widest.now o walk
+            → Stepped self.old.subtrees.table.now self.old.roles.now self.old.widest.now o walk self.old.points.now result self.new.points.now }
+    {
+        let fork = self.subtrees.fork_at(walk.at, walk.side);
+        let roles = self.roles;
+        let role = role_at(roles, walk.at);
+        if role.is_knee() {
+            return self.at_knee(fork, walk);
+        }
+        if role.is_switch() {
+            return self.at_switch(fork, walk);
+        }
+        self.at_ordinary(fork, walk)
     }
-    at_ordinary(table, sizes, roles, widest, points, fork, w)
-}
 
-// 004, Steps 5 and 6; 01, steps 1 and 4 to 8: from the first node to the end of a spine; what is then still pending goes below all (step 8, which 004
-// omits). Answers the first row below the drawing.
-#[cycle(at_knee_at_ordinary_at_switch_draw_hung_draw_left_draw_right_draw_spine_step)]
-fn draw_spine(
-    table: &[u8],
-    sizes: &[u16],
-    roles: &[u16],
-    widest: &[u16],
-    points: &mut [u16],
-    root: usize,
-    edge: usize,
-    top: usize,
-    mirrored: bool,
-) -> usize
-    requires given { Given table.now sizes.now roles.now widest.now points.old }
-    requires drawable { Drawable table.now roles.now widest.now (side_of mirrored) root edge 0 top }
-    requires root_nonzero { 0 < root }
-    ensures { SubtreeDrawn table.now (side_of mirrored) root edge top points.old result points.new }
-{
-    let right = is_right_at(roles, root);
-    let mut w = Walk {
-        at: root,
-        row: top,
-        lowest: top,
-        pending: 0,
-        right,
-        edge,
-        widest: widest[root] as usize,
-        mirrored,
-    };
-    while w.at != 0 {
-        w = step(table, sizes, roles, widest, points, w);
+    // 004, Steps 5 and 6; 01, steps 1 and 4 to 8: from the first node to the end of a spine; what is then still pending goes below all (step 8, which 004
+    // omits). Answers the first row below the drawing. A `while` follows the links of the spine, whose nodes stand in no list.
+    #[cycle(spines)]
+    #[tactic(auto, using(roles::proofs::Forks::named_within))]
+    fn draw_spine(&mut self, root: usize, edge: usize, top: usize, side: Side) -> usize
+        requires drawable { Drawable self.old.subtrees.table.now self.old.roles.now self.old.widest.now (side_of side) root edge 0 top }
+        requires root_nonzero { 0 < root }
+        ensures kept { Kept self.old self.new }
+        ensures drawn { SubtreeDrawn self.old.subtrees.table.now (side_of side) root edge top self.old.points.now result self.new.points.now }
+    {
+        let roles = self.roles;
+        let mut walk = Walk {
+            at: root,
+            row: top,
+            lowest: top,
+            pending: 0,
+            hand: hand_at(roles, root),
+            edge,
+            widest: usize::from(self.widest[root]),
+            side,
+        };
+        while walk.at != 0 {
+            walk = self.step(walk);
+        }
+        self.draw_hung(walk, walk.pending, 1, walk.lowest + 1)
     }
-    let row = w.lowest + 1;
-    draw_hung(table, sizes, roles, widest, points, w, w.pending, 1, row)
-}
 
-// 004, Step 3(a) to (c); 01, step 3: a drawing on the left side, by these same steps. Answers the first row below it.
-#[cycle(at_knee_at_ordinary_at_switch_draw_hung_draw_left_draw_right_draw_spine_step)]
-fn draw_left(
-    table: &[u8],
-    sizes: &[u16],
-    roles: &[u16],
-    widest: &[u16],
-    points: &mut [u16],
-    root: usize,
-    edge: usize,
-    top: usize,
-) -> usize
-    requires given { Given table.now sizes.now roles.now widest.now points.old }
-    requires drawable { Drawable table.now roles.now widest.now left root edge 0 top }
-    requires root_nonzero { 0 < root }
-    ensures { SubtreeDrawn table.now left root edge top points.old result points.new }
-{
-    draw_spine(table, sizes, roles, widest, points, root, edge, top, false)
-}
-
-// 004, Steps 3(d) and 6(d); 01, step 3: a drawing on the right side, which is that of the mirror image, flipped left to right.
-#[cycle(at_knee_at_ordinary_at_switch_draw_hung_draw_left_draw_right_draw_spine_step)]
-fn draw_right(
-    table: &[u8],
-    sizes: &[u16],
-    roles: &[u16],
-    widest: &[u16],
-    points: &mut [u16],
-    root: usize,
-    edge: usize,
-    top: usize,
-) -> usize
-    requires given { Given table.now sizes.now roles.now widest.now points.old }
-    requires drawable { Drawable table.now roles.now widest.now right root edge 0 top }
-    requires root_nonzero { 0 < root }
-    ensures { SubtreeDrawn table.now right root edge top points.old result points.new }
-{
-    draw_spine(table, sizes, roles, widest, points, root, edge, top, true)
-}
-
-// 004, Step 3; 01, step 3: the drawing of a hung subtree, 0 for none, on the side of the walk's hand: its edge is at that hand's column, its top at the
-// row. Answers the first row below it.
-#[cycle(at_knee_at_ordinary_at_switch_draw_hung_draw_left_draw_right_draw_spine_step)]
-fn draw_hung(
-    table: &[u8],
-    sizes: &[u16],
-    roles: &[u16],
-    widest: &[u16],
-    points: &mut [u16],
-    w: Walk,
-    child: usize,
-    column: usize,
-    top: usize,
-) -> usize
-    requires given { Given table.now sizes.now roles.now widest.now points.old }
-    requires drawable { Drawable table.now roles.now widest.now (hand_at w) child w.edge column top }
-    ensures { SubtreeDrawn table.now (hand_at w) child (inwardsOf (hand_at w) w.edge column) top
-        points.old result points.new }
-{
-    if child == 0 {
-        return top;
+    // 004, Step 3(a) to (c); 01, step 3: a drawing on the left side, by these same steps. Answers the first row below it. It and the next are two functions,
+    // since document 01 asks for a left-side and a right-side drawing that call each other through the hung subtrees.
+    #[cycle(spines)]
+    pub fn draw_left(&mut self, root: usize, edge: usize, top: usize) -> usize
+        requires drawable { Drawable self.old.subtrees.table.now self.old.roles.now self.old.widest.now left root edge 0 top }
+        requires root_nonzero { 0 < root }
+        ensures kept { Kept self.old self.new }
+        ensures drawn { SubtreeDrawn self.old.subtrees.table.now left root edge top self.old.points.now result self.new.points.now }
+    {
+        self.draw_spine(root, edge, top, Side::Left)
     }
-    let edge = inwards(w.right, w.edge, column);
-    if w.right {
-        draw_right(table, sizes, roles, widest, points, child, edge, top)
-    } else {
-        draw_left(table, sizes, roles, widest, points, child, edge, top)
-    }
-}
 
-// 004, Step 5; 01, step 1: the drawing of a whole tree, on the left side, from column 0 on and the given row on, by the roles of its spines. Answers the
-// first row below it.
-pub fn draw_tree(
-    table: &[u8],
-    sizes: &[u16],
-    roles: &[u16],
-    widest: &[u16],
-    points: &mut [u16],
-    root: usize,
-    top: usize,
-) -> usize
-    requires given { Given table.now sizes.now roles.now widest.now points.old }
-    requires drawable { Drawable table.now roles.now widest.now left root 0 0 top }
-    ensures { SubtreeDrawn table.now left root 0 top points.old result points.new }
-{
-    let w = Walk {
-        at: 0,
-        row: 0,
-        lowest: 0,
-        pending: 0,
-        right: false,
-        edge: 0,
-        widest: 0,
-        mirrored: false,
-    };
-    draw_hung(table, sizes, roles, widest, points, w, root, 0, top)
+    // 004, Steps 3(d) and 6(d); 01, step 3: a drawing on the right side, which is that of the mirror image, flipped left to right.
+    #[cycle(spines)]
+    fn draw_right(&mut self, root: usize, edge: usize, top: usize) -> usize
+        requires drawable { Drawable self.old.subtrees.table.now self.old.roles.now self.old.widest.now right root edge 0 top }
+        requires root_nonzero { 0 < root }
+        ensures kept { Kept self.old self.new }
+        ensures drawn { SubtreeDrawn self.old.subtrees.table.now right root edge top self.old.points.now result self.new.points.now }
+    {
+        self.draw_spine(root, edge, top, Side::Right)
+    }
+
+    // 004, Step 3; 01, step 3: the drawing of a hung subtree, 0 for none, on the side of the walk's hand: its edge is at that hand's column, its top at the
+    // row. Answers the first row below it.
+    #[cycle(spines)]
+    fn draw_hung(&mut self, walk: Walk, child: usize, column: usize, top: usize) -> usize
+        requires drawable { Drawable self.old.subtrees.table.now self.old.roles.now self.old.widest.now (hand_of walk) child walk.edge column top }
+        ensures kept { Kept self.old self.new }
+        ensures drawn { SubtreeDrawn self.old.subtrees.table.now (hand_of walk) child (inwardsOf (hand_of walk) walk.edge column) top
+            self.old.points.now result self.new.points.now }
+    {
+        if child == 0 {
+            return top;
+        }
+        let edge = walk.inwards(column);
+        match walk.hand {
+            Side::Left => self.draw_left(child, edge, top),
+            Side::Right => self.draw_right(child, edge, top),
+        }
+    }
 }

@@ -2,12 +2,14 @@
 use mathlib.Core.Path.{◌≡◌, refl, ◌∙◌}
 use mathlib.Core.List.{List, [], ◌∷◌, ◌++◌}
 use Prim.Native.Nat.{ℕ, suc, ◌+◌, ◌/◌, ◌%◌, ◌≤◌, ◌<◌}
-use native.Mathlib.Nat.{add-zero, add-suc, suc-add}
 use native.Mathlib.Numerals.{add-one}
+use native.Mathlib.Nat.{add-zero, add-suc, suc-add}
 use native.Mathlib.Omega.{arith}
-use lib.ListN.{length, get_or, set, take, length-append}
-use lib.Seq.{sets, length-sets, take-suc, take_all}
-use Rattle.fields.specs.Fields.{decimal}
+use lib.ListN.{length, get_or, set, drop, length-append}
+use lib.Seq.{paste, sets, sets-eq, length-sets, take_all, drop-cons}
+use Rattle.std.proofs.lemmas.List.{drop_all}
+use Rattle.fields.specs.declared.Writer.{Writer}
+use Rattle.fields.specs.Fields.{decimal, fields}
 use Rattle.fields.specs.inner.Put.{Put}
 use Rattle.fields.proofs.Decimal.{decimal_one, decimal_more}
 
@@ -15,42 +17,38 @@ sets_append : (xs ys l : List ℕ) (i : ℕ) → sets l i (xs ++ ys) ≡ sets (s
 sets_append [] ys l i = rw add-zero
 sets_append (x ∷ xs) ys l i = rw (sets_append xs ys (set l i x) (suc i), suc-add, ← add-suc)
 
--- Bytes behind bytes; a byte before some, and behind some.
-pub put_then : {xs ys a b c : List ℕ} {i j k : ℕ} → Put xs a i j b → Put ys b j k c → Put (xs ++ ys) a i k c
-put_then {xs} {ys} {a} {b} {c} {i} {j} {k} p q = record {
+-- Bytes behind bytes, and no bytes.
+pub put_then : {xs ys : List ℕ} {a b c : Writer} → Put xs a b → Put ys b c → Put (xs ++ ys) a c
+put_then {xs} {ys} {a} {b} {c} p q = record {
+  same = q.same ∙ p.same;
   place = rw length-append (omega (arith, p.place, q.place));
-  stored = q.stored ∙ rw (p.place, p.stored, sets_append xs ys a i);
+  stored = q.stored ∙ rw (p.place, p.stored, sets_append xs ys a.out.now a.at);
 }
 
-put_byte : (b : ℕ) (l : List ℕ) (i : ℕ) → Put (b ∷ []) l i (i + 1) (set l i b)
-put_byte b l i = record { place = omega arith; stored = refl }
-
-pub put_before : {xs l m : List ℕ} {i j : ℕ} (b : ℕ) → Put xs (set l i b) (i + 1) j m → Put (b ∷ xs) l i j m
-put_before {xs} {l} {m} {i} {j} b p = put_then (put_byte b l i) p
-
-pub put_behind : {xs l m : List ℕ} {i j : ℕ} (b : ℕ) → Put xs l i j m → Put (xs ++ (b ∷ [])) l i (j + 1) (set m j b)
-put_behind {xs} {l} {m} {i} {j} b p = put_then p (put_byte b m j)
+pub put_nothing : (a : Writer) → Put [] a a
+put_nothing a = record { same = refl; place = omega arith; stored = refl }
 
 -- A writer keeps the length of its buffer.
-pub put_length : {xs a b : List ℕ} {i j : ℕ} → Put xs a i j b → length b ≡ length a
-put_length {xs} {a} {b} {i} {j} p = rw p.stored (length-sets a i xs)
+pub put_length : {xs : List ℕ} {a b : Writer} → Put xs a b → length b.out.now ≡ length a.out.now
+put_length {xs} {a} {b} p = rw p.stored (length-sets a.out.now a.at xs)
+
+-- A word copied whole.
+pub paste_sets : (w l : List ℕ) (i : ℕ) → i + length w ≤ length l → paste l i w (length w) ≡ sets l i w
+paste_sets w l i h = rw (sets-eq w l i h, take_all (length w) w (omega arith))
 
 -- A number, digit by digit.
-pub put_one : (n b : ℕ) (l : List ℕ) (i : ℕ) → n < 10 → b ≡ 48 + n → Put (decimal n) l i (i + 1) (set l i b)
-put_one n b l i h e = rw (decimal_one n h, e) (put_byte (48 + n) l i)
+pub put_one : {n : ℕ} {a b : Writer} → n < 10 → Put ((48 + n % 10) ∷ []) a b → Put (decimal n) a b
+put_one {n} h p = let e : n % 10 ≡ n = omega arith in rw (decimal_one n h) (rw e at p)
 
-pub put_more : (n b : ℕ) {l m : List ℕ} {i j : ℕ} → 10 ≤ n → Put (decimal (n / 10)) l i j m → b ≡ 48 + n % 10 → Put (decimal n) l i (j + 1) (set m j b)
-put_more n b h p e = rw (decimal_more n h, e) (put_behind (48 + n % 10) p)
+pub put_more : {n : ℕ} {a b c : Writer} → 10 ≤ n → Put (decimal (n / 10)) a b → Put ((48 + n % 10) ∷ []) b c → Put (decimal n) a c
+put_more {n} h p q = rw (decimal_more n h) (put_then p q)
 
--- A word, byte by byte.
-pub put_start : (w l : List ℕ) (i : ℕ) → Put (take 0 w) l i (i + 0) l
-put_start w l i = record { place = omega arith; stored = refl }
+-- The next of the fields of a line.
+pub put_next : (xs : List ℕ) (i : ℕ) {a b c w : Writer} → i < length xs → Put (32 ∷ []) a b → Put (decimal (get_or xs i 0)) b c →
+    Put (fields (drop (i + 1) xs)) c w → Put (fields (drop i xs)) a w
+unfolding fields
+put_next xs i h p q r = rw (drop-cons xs i 0 h) (put_then p (put_then q (rw add-one at r)))
 
-pub put_next : (w : List ℕ) (i j : ℕ) {l m : List ℕ} → j < length w → Put (take j w) l i (i + j) m →
-    Put (take (j + 1) w) l i (i + (j + 1)) (set m (i + j) (get_or w j 0))
-put_next w i j h p =
-    let q = put_behind (get_or w j 0) p in
-    record { place = rw (add-one, take-suc w j 0) (omega (arith, q.place)); stored = rw (add-one j, take-suc w j 0) q.stored }
-
-pub put_end : {w l m : List ℕ} {i j : ℕ} → length w ≤ j → Put (take j w) l i (i + j) m → Put w l i (i + j) m
-put_end {w} {l} {m} {i} {j} h p = rw (take_all j w h) at p
+pub put_end : (xs : List ℕ) (i : ℕ) {a b : Writer} → length xs ≤ i → Put (10 ∷ []) a b → Put (fields (drop i xs)) a b
+unfolding fields
+put_end xs i h p = rw (drop_all i xs h) p

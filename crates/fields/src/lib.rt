@@ -1,71 +1,66 @@
-// Words and numbers written into a buffer from a place on. Each function answers the place behind what it wrote.
+// Words and numbers written into a lent buffer, one behind the other.
 #![tactic(auto)]
 
-ghost use Rattle.std.specs.Prelude.{◌≡◌, [], ◌∷◌, ◌+◌, ◌<◌, ◌≤◌, length};
+ghost use Rattle.std.specs.Prelude.{◌≡◌, [], ◌∷◌, ◌+◌, ◌*◌, ◌≤◌, length};
 ghost use Rattle.fields.specs.Fields.{decimal, fields};
-ghost use Rattle.fields.specs.inner.Put.{Put};
+ghost use Rattle.fields.specs.inner.Put.{HasRoom, Put};
 
-pub fn put_word(word: &[u8], out: &mut [u8], at: usize) -> usize
-    requires { at + length word.now ≤ length out.old }
-    ensures { Put word.now out.old at result out.new }
-{
-    let mut i = 0;
-    while i < word.len() {
-        out[at + i] = word[i];
-        i += 1;
+// A lent buffer, and the place behind what is written: no heap, and std's writers promise no byte (`put_decimal`).
+#[derive(Drop)]
+pub struct Writer<'a> {
+    pub out: &'a mut [u8],
+    pub at: usize,
+}
+
+impl<'a> Writer<'a> {
+    // Writes from the start of the buffer on.
+    pub fn new(out: &'a mut [u8]) -> Writer<'a>
+        ensures same { result.out.ghost_name ≡ out.entry.ghost_name }
+        ensures buffer { result.out.now ≡ out.old }
+        ensures place { result.at ≡ 0 }
+    {
+        Writer { out, at: 0 }
     }
-    at + i
-}
 
-// The ASCII code of a digit.
-fn digit(d: u16) -> u8
-    requires { d < 10 }
-    ensures { result ≡ 48 + d }
-{
-    b'0' + d as u8
-}
-
-pub fn put_decimal(n: u16, out: &mut [u8], at: usize) -> usize
-    requires { at + length (decimal n) ≤ length out.old }
-    ensures { Put (decimal n) out.old at result out.new }
-{
-    if n < 10 {
-        out[at] = digit(n);
-        return at + 1;
+    fn put_byte(&mut self, byte: u8)
+        requires { HasRoom 1 self.old }
+        ensures { Put (byte ∷ []) self.old self.new }
+    {
+        self.out[self.at] = byte;
+        self.at += 1;
     }
-    let end = put_decimal(n / 10, out, at);
-    out[end] = digit(n % 10);
-    end + 1
-}
 
-// A space and a number.
-fn put_field(n: u16, out: &mut [u8], at: usize) -> usize
-    requires { at + 6 ≤ length out.old }
-    ensures put { Put (32 ∷ decimal n) out.old at result out.new }
-    ensures upper_bound { result ≤ at + 6 }
-{
-    out[at] = b' ';
-    put_decimal(n, out, at + 1)
-}
+    pub fn put_word(&mut self, word: &[u8])
+        requires { HasRoom (length word.now) self.old }
+        ensures { Put word.now self.old self.new }
+    {
+        let end = self.at + word.len();
+        self.out[self.at..end].copy_from_slice(word);
+        self.at = end;
+    }
 
-// The last field of a line.
-pub fn put_last(n: u16, out: &mut [u8], at: usize) -> usize
-    requires { at + 7 ≤ length out.old }
-    ensures put { Put (fields (n ∷ [])) out.old at result out.new }
-    ensures upper_bound { result ≤ at + 7 }
-{
-    let end = put_field(n, out, at);
-    out[end] = b'\n';
-    end + 1
-}
+    // By hand, since std's `write!` promises no byte of what it leaves in a lent slice. A last digit is below 10: a `try_from` could not fail and would be
+    // no plainer than the cast.
+    pub fn put_decimal(&mut self, n: u16)
+        requires { HasRoom (length (decimal n)) self.old }
+        ensures { Put (decimal n) self.old self.new }
+    {
+        if 10 <= n {
+            self.put_decimal(n / 10);
+        }
+        self.put_byte(b'0' + (n % 10) as u8);
+    }
 
-// The last three fields of a line.
-pub fn put_three(a: u16, b: u16, c: u16, out: &mut [u8], at: usize) -> usize
-    requires { at + 19 ≤ length out.old }
-    ensures put { Put (fields (a ∷ b ∷ c ∷ [])) out.old at result out.new }
-    ensures upper_bound { result ≤ at + 19 }
-{
-    let second = put_field(a, out, at);
-    let third = put_field(b, out, second);
-    put_last(c, out, third)
+    // The numbers that follow the first word of a line, each behind a space, and the end of the line.
+    pub fn put_fields(&mut self, numbers: &[u16])
+        requires { HasRoom (6 * length numbers.now + 1) self.old }
+        ensures put { Put (fields numbers.now) self.old self.new }
+        ensures upper_bound { self.new.at ≤ self.old.at + 6 * length numbers.now + 1 }
+    {
+        for n in numbers {
+            self.put_byte(b' ');
+            self.put_decimal(*n);
+        }
+        self.put_byte(b'\n');
+    }
 }

@@ -10,7 +10,7 @@ use Rattle.table.specs.Refusal.{fault, refusal}
 use Rattle.table.proofs.Accepted.{refusal_none, chain_distinct}
 use Rattle.table.proofs.Saying.{answered_number}
 use Rattle.layout.specs.Trees.{draw_trees, width_of, height_of}
-use Rattle.drawing.specs.declared.Drawn.{Drawn}
+use Rattle.drawing.specs.Answer.{Drawn}
 use Rattle.drawing.specs.Answer.{store_all, plan_of, placed_in}
 use Rattle.drawing.proofs.StoredTrees.{stored_length}
 use Rattle.drawing.proofs.Answered.{Accepted, accepted}

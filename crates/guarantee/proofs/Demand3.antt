@@ -17,7 +17,7 @@ use Rattle.layout.specs.Drawing.{drawing, draw}
 use Rattle.layout.specs.Trees.{draw_from, draw_trees, width_of}
 use Rattle.layout.proofs.Stacked.{AgreesAll, CheckedAll, trees_checked, trees_narrow, trees_short}
 use Rattle.drawing.specs.Answer.{plan_of, drawn_of, placed_in}
-use Rattle.drawing.specs.declared.Drawn.{Drawn}
+use Rattle.drawing.specs.Answer.{Drawn}
 use Rattle.drawing.proofs.Elsewhere.{as_many, drawn_chained}
 use Rattle.drawing.proofs.StoredTrees.{times_in, times_trees, stored_points}
 use Rattle.drawing.proofs.Whole.{no_trees}

@@ -20,7 +20,7 @@ use Rattle.layout.proofs.Stacked.{Among, here, there, AgreesAll, rows_held}
 use Rattle.layout.proofs.EverySpine.{each_tree}
 use Rattle.layout.proofs.Ruler.{ruler_trees}
 use Rattle.drawing.specs.Answer.{plan_of, drawn_of, placed_in}
-use Rattle.drawing.specs.declared.Drawn.{Drawn}
+use Rattle.drawing.specs.Answer.{Drawn}
 use Rattle.drawing.proofs.Elsewhere.{drawn_chained}
 use Rattle.drawing.proofs.StoredPoints.{times_node}
 use Rattle.drawing.proofs.StoredTrees.{times_in}

@@ -6,17 +6,21 @@ use Prim.Native.Nat.{ℕ, ◌≤◌}
 use lib.ListN.{length}
 use Rattle.table.specs.Table.{chain}
 use Rattle.table.specs.Refusal.{refusal}
-use Rattle.drawing.specs.declared.Drawn.{Drawn}
-use Rattle.drawing.specs.Answer.{drawn_of, placed_in}
+use Rattle.drawing.specs.declared.Drawn.{Drawn as CodeDrawn}
+use Rattle.drawing.specs.Answer.{Drawn, said, drawn_of, placed_in}
 use Rattle.drawing.proofs.Answered.{refused, drawn_refusal}
+use Rattle.std.specs.Prelude.{Option, Result}
+use Rattle.table.specs.declared.Refusal.{Refusal}
+use Rattle.verdict.specs.declared.Fault.{Fault}
+use Rattle.verdict.specs.Fault.{verdict_number}
 use Rattle.verdict.specs.Verdict.{Verdict}
 use Rattle.verdict.proofs.Unique.{verdict_unique}
 use Rattle.width.specs.Allowed.{allowed_width}
 use Rattle.guarantee.specs.Demand.{Kept, Guaranteed}
 use Rattle.guarantee.proofs.Demand3.{kept}
 
-pub guaranteed : (t p : List ℕ) (d : Drawn) (v : ℕ) (p' : List ℕ) → d ≡ drawn_of t p → p' ≡ placed_in t p → Verdict t p' v →
-    Guaranteed t p (record { drawn = d; verdict = v }) p'
+pub guaranteed : (t p : List ℕ) (d : CodeDrawn) (v : Result (Option Fault) Refusal) (p' : List ℕ) → said d ≡ drawn_of t p → p' ≡ placed_in t p →
+    Verdict t p' (verdict_number v) → Guaranteed t p (record { drawn = d; verdict = v }) p'
 guaranteed t p d v p' drawn after verdict = record {
   drawn = drawn;
   after = after;
@@ -28,8 +32,8 @@ guaranteed t p d v p' drawn after verdict = record {
     ),
   );
   refused = λ n. let as_lent : p' ≡ p = after ∙ (refused t p (λ e. n (number ∙ e))).after in
-      (verdict_unique t p (subst (λ (q : List ℕ). Verdict t q v) as_lent verdict) (inl (λ e. n (number ∙ e), refl)) ∙ sym number, as_lent);
+      (verdict_unique t p (subst (λ (q : List ℕ). Verdict t q (verdict_number v)) as_lent verdict) (inl (λ e. n (number ∙ e), refl)) ∙ sym number, as_lent);
 }
   where
-    number : d.refusal ≡ refusal t (length p)
+    number : (said d).refusal ≡ refusal t (length p)
     number = ap (λ (d : Drawn). d.refusal) drawn ∙ drawn_refusal t p

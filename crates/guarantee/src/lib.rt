@@ -3,19 +3,21 @@
 
 ghost use Rattle.guarantee.specs.Demand.{Guaranteed};
 
-use drawing::Drawn;
+use drawing::{Drawn, draw};
+use table::Refusal;
+use verdict::{Fault, check};
 
 // The drawer's answer, and what the check says of the placements as the drawer left them.
-#[derive(Clone, Copy)]
+#[derive(Clone, Copy, Debug, PartialEq, Eq)]
 pub struct Checked {
     pub drawn: Drawn,
-    pub verdict: u16,
+    pub verdict: Result<Option<Fault>, Refusal>,
 }
 
 pub fn draw_checked(table: &[u8], placements: &mut [u16]) -> Checked
     ensures { Guaranteed table.now placements.old result placements.new }
 {
-    let drawn = drawing::draw(table, placements);
-    let verdict = verdict::check(table, placements);
+    let drawn = draw(table, placements);
+    let verdict = check(table, placements);
     Checked { drawn, verdict }
 }

@@ -1,8 +1,9 @@
 -- A line as a number: its parts are its points, and its halves their numbers.
-use mathlib.Core.Path.{◌≡◌}
+use mathlib.Core.Path.{◌≡◌, ◌∙◌}
 use Prim.Native.Nat.{ℕ, ◌+◌, ◌*◌, ◌<◌, ◌/◌, ◌%◌}
 use native.Mathlib.Omega.{arith}
 use Rattle.segment.specs.declared.Point.{Point}
+use Rattle.segment.specs.Segment.{at}
 use Rattle.segment.specs.inner.Test.{number}
 use Rattle.segment.proofs.Clashing.{point}
 use Rattle.line.specs.inner.Line.{start_of, end_of, first, last}
@@ -36,6 +37,15 @@ number_first k = omega arith
 pub number_last : (k : ℕ) → number 65536 (end_of k) ≡ last k
 unfolding end_of
 number_last k = omega arith
+
+-- A line's points, from their numbers.
+pub start_numbered : (k : ℕ) {P : Point} → P ≡ at (first k % 65536) (first k / 65536) → P ≡ start_of k
+unfolding start_of
+start_numbered k e = e ∙ point (omega arith) (omega arith)
+
+pub end_numbered : (k : ℕ) {P : Point} → P ≡ at (last k % 65536) (last k / 65536) → P ≡ end_of k
+unfolding end_of
+end_numbered k e = e ∙ point (omega arith) (omega arith)
 
 pub start_fits : (k : ℕ) → (start_of k).column < 65536
 unfolding start_of

@@ -1,7 +1,9 @@
 // A line as a number: the number of its end above that of its start, each counted row by row (specs/inner/Line).
+// It is no struct, since `sort` sorts numbers, and C lends lines as numbers (`probe`).
 #![tactic(auto)]
 
-ghost use Rattle.std.specs.Prelude.{◌≡◌, ◌<◌};
+ghost use Rattle.std.specs.Prelude.{◌≡◌, ◌<◌, ◌/◌, ◌%◌};
+ghost use Rattle.segment.specs.Segment.{at};
 ghost use Rattle.segment.specs.inner.Test.{number as number_of};
 ghost use Rattle.line.specs.inner.Line.{start_of, end_of, first as first_of, last as last_of};
 
@@ -10,18 +12,11 @@ use segment::Point;
 // What a step of the end adds to a line's number: more than the number of any start.
 const HALF: u64 = 0x1_0000_0000;
 
-// A number of 16 bits, as one of 64.
-pub fn widened(n: u16) -> u64
-    ensures { (result ≡ n) × (result < 65536) }
-{
-    n as u64
-}
-
 // The number of a point, counted row by row.
 pub fn number(p: Point) -> u64
     ensures { (result ≡ number_of 65536 p) × (p.row < 65536) × (p.column < 65536) }
 {
-    65536 * widened(p.row) + widened(p.column)
+    65536 * u64::from(p.row) + u64::from(p.column)
 }
 
 // The line from p to q, as a number.
@@ -45,20 +40,29 @@ pub fn last(k: u64) -> u64
     k / HALF
 }
 
-pub fn start(k: u64) -> Point
-    ensures { result ≡ start_of k }
+// The point with this number. That the casts lose no bits is proved, so `try_from` and an `unwrap` would be no plainer.
+fn numbered(n: u64) -> Point
+    requires { n < 4294967296 }
+    ensures { result ≡ at (n % 65536) (n / 65536) }
 {
     Point {
-        column: (k % 65536) as u16,
-        row: (k / 65536 % 65536) as u16,
+        column: (n % 65536) as u16,
+        row: (n / 65536) as u16,
     }
 }
 
+// The point that a line starts at.
+#[tactic(auto, using(crate::proofs::Numbers::start_numbered))]
+pub fn start(k: u64) -> Point
+    ensures { result ≡ start_of k }
+{
+    numbered(first(k))
+}
+
+// The point that it ends at.
+#[tactic(auto, using(crate::proofs::Numbers::end_numbered))]
 pub fn end(k: u64) -> Point
     ensures { result ≡ end_of k }
 {
-    Point {
-        column: (k / HALF % 65536) as u16,
-        row: (k / 0x1_0000_0000_0000) as u16,
-    }
+    numbered(last(k))
 }

@@ -1,13 +1,13 @@
 // Left and right, and column and row, exchanged at listed records.
 #![tactic(auto)]
 
-ghost use Rattle.std.specs.Prelude.{◌≡◌, ℕ, ◌+◌, ◌*◌, ◌≤◌, ◌<◌, T, length, take};
+ghost use Rattle.std.specs.Prelude.{◌≡◌, ℕ, ◌+◌, ◌*◌, ◌<◌, T, length};
 ghost use Rattle.table.specs.Lists.{member};
 ghost use Rattle.table.specs.Table.{records};
 ghost use Rattle.mirror.specs.Exchanged.{exchange_links, exchange_point, each};
 
 use placements::{point, set_point};
-use records::words::{index, left, right};
+use records::words::{left, right};
 use records::writing::set_word;
 
 // Left and right of record k.
@@ -27,31 +27,25 @@ fn exchange_point(placements: &mut [u16], k: usize)
     ensures { placements.new ≡ exchange_point k placements.old }
 {
     let old = point(placements, k);
-    set_point(placements, k, index(old.row), index(old.column));
+    set_point(placements, k, usize::from(old.row), usize::from(old.column));
 }
 
-// Left and right of the first `nodes` records of a list.
-pub fn exchange_table(table: &mut [u8], list: &[u16], nodes: usize)
-    requires nodes_in_bounds { nodes ≤ length list.now }
-    requires by_index { (k : ℕ) → T (member k (take nodes list.now)) → k < records table.old }
-    ensures { table.new ≡ each exchange_links (take nodes list.now) table.old }
+// Left and right of the listed records. One function for this and the next, over the step and the type of a slice's items, would be longer than both.
+pub fn exchange_table(table: &mut [u8], list: &[u16])
+    requires { (k : ℕ) → T (member k list.now) → k < records table.old }
+    ensures { table.new ≡ each exchange_links list.now table.old }
 {
-    let mut i = 0;
-    while i < nodes {
-        exchange_links(table, list[i] as usize);
-        i += 1;
+    for &k in list {
+        exchange_links(table, usize::from(k));
     }
 }
 
-// Column and row of the first `nodes` records of a list.
-pub fn exchange_placements(placements: &mut [u16], list: &[u16], nodes: usize)
-    requires nodes_in_bounds { nodes ≤ length list.now }
-    requires by_index { (k : ℕ) → T (member k (take nodes list.now)) → 2 * k + 1 < length placements.old }
-    ensures { placements.new ≡ each exchange_point (take nodes list.now) placements.old }
+// Column and row of the listed records.
+pub fn exchange_placements(placements: &mut [u16], list: &[u16])
+    requires { (k : ℕ) → T (member k list.now) → 2 * k + 1 < length placements.old }
+    ensures { placements.new ≡ each exchange_point list.now placements.old }
 {
-    let mut i = 0;
-    while i < nodes {
-        exchange_point(placements, list[i] as usize);
-        i += 1;
+    for &k in list {
+        exchange_point(placements, usize::from(k));
     }
 }

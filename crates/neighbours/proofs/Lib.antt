@@ -1,5 +1,5 @@
--- The laws of a sweep that compares neighbours, and what the proofs of its functions rest on (Moves). None is assumed.
+-- The laws of a sweep that compares neighbours, and which points the numbers of a line's ends stand for (Ends). None is assumed.
 pub mod Levels
 pub mod Chain
 pub mod Steps
-pub mod Moves
+pub mod Ends

@@ -265,12 +265,6 @@ abreast_in {p = p} o out k g changed left right = record {
   down = λ t down h. abreast_on o h (omega arith, refl, omega arith) (k, omega arith) out (λ z. refl) changed down left (λ z. right p refl);
 }
 
-pub out_places : {n m p e : ℕ} {a b : List ℕ} → Places n m a → p ≤ e → e ≤ m → m ≤ length b → Replaced 0 m p e 0 a b → Places n (m + p - e) b
-out_places {n} w o k r changed = record {
-  room = omega arith;
-  below = replaced_all (omega arith) (k, omega arith) o changed (λ j. j < n) w.below (λ z. absurd (omega arith));
-}
-
 pub abreast_out : {n i t m p e : ℕ} {l a b : List ℕ} → Onward n l → Starting p e t l a → e ≤ m → i ≤ n → Replaced 0 m p e 0 a b →
     ((s : ℕ) → s + 1 ≡ p → p < m + p - e → Next (at l b (s + 1)) (at l b s)) → Downto n i i t m (m + p - e) l a b
 abreast_out {i = i} {m = m} {p} {e} {a = a} {b} o out k g changed left = record {

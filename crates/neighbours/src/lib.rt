@@ -6,64 +6,18 @@
 mod abreast;
 mod side;
 
-ghost use Rattle.std.specs.Prelude.{◌≡◌, true, ℕ, ◌+◌, ◌-◌, ◌≤◌, ◌<◌, length, get_or};
+ghost use Rattle.std.specs.Prelude.{◌≡◌, true, ℕ, ◌-◌, ◌≤◌, ◌<◌, length, get_or};
 ghost use Rattle.sort.specs.inner.Order.{Ascending};
 ghost use Rattle.line.specs.inner.Line.{last, Onward};
-ghost use Rattle.neighbours.specs.inner.Side.{Next};
-ghost use Rattle.neighbours.specs.inner.Abreast.{NoClash, Places, at, EndsBy, Starting, Downto};
+ghost use Rattle.neighbours.specs.inner.Abreast.{NoClash, EndsBy};
 
-use crate::abreast::{clear_out, line_at, place, replace, starting};
-use crate::side::beside;
+use crate::abreast::Front;
 use line::{first, last};
-
-// Are the lines at p and before it side by side, if there are both?
-fn beside_last(lines: &[u64], abreast: &[u16], m: usize, p: usize) -> bool
-    requires { Places (length lines.now) m abreast.now }
-    ensures { result ≡ true → (s : ℕ) → s + 1 ≡ p → p < m
-        → Next (at lines.now abreast.now (s + 1)) (at lines.now abreast.now s) }
-{
-    if p == 0 {
-        return true;
-    }
-    if m <= p {
-        return true;
-    }
-    let right = line_at(lines, abreast, p - 1);
-    beside(line_at(lines, abreast, p), right)
-}
-
-// Line i comes in at its end, in the place of those from p to before e, which go out.
-fn come_in(lines: &[u64], abreast: &mut [u16], m: usize, p: usize, e: usize, i: usize) -> bool
-    requires onward { Onward (length lines.now) lines.now }
-    requires places { Places (length lines.now) m abreast.old }
-    requires starting { Starting p e (last (get_or lines.now i 0)) lines.now abreast.old }
-    requires room { (e ≤ m) × (m < length abreast.old) × (i < length lines.now) × (length lines.now ≤ 65535) }
-    ensures { result ≡ true → Downto (length lines.now) (i + 1) i (last (get_or lines.now i 0)) m (m + p + 1 - e)
-        lines.now abreast.old abreast.new }
-{
-    let left = m + p + 1 - e;
-    replace(abreast, m, p, e, i as u16);
-    if !beside_last(lines, abreast, left, p) {
-        return false;
-    }
-    beside_last(lines, abreast, left, p + 1)
-}
-
-// The lines from p to before e go out.
-fn go_out(lines: &[u64], abreast: &mut [u16], m: usize, p: usize, e: usize) -> bool
-    requires onward { Onward (length lines.now) lines.now }
-    requires places { Places (length lines.now) m abreast.old }
-    requires p_le_e { (p ≤ e) × (e ≤ m) }
-    ensures { result ≡ true → (i t : ℕ) → i ≤ length lines.now → Starting p e t lines.now abreast.old
-        → Downto (length lines.now) i i t m (m + p - e) lines.now abreast.old abreast.new }
-{
-    clear_out(abreast, m, p, e);
-    beside_last(lines, abreast, m + p - e, p)
-}
 
 // ---- which level: any that is not above the last, nor below the next end
 
-// The end of the line before i, which comes in next, or the start of the line that came in last, if that comes sooner.
+// The end of the line before i, which comes in next, or the start of the line that came in last, if that comes sooner. The lines are
+// not cut before i, since `EndsBy` speaks of i.
 fn next_level(lines: &[u64], i: usize, soon: u64) -> u64
     requires { i ≤ length lines.now }
     ensures least { (t : ℕ) → soon ≤ t → EndsBy i t lines.now → result ≤ t }
@@ -72,11 +26,7 @@ fn next_level(lines: &[u64], i: usize, soon: u64) -> u64
     if i == 0 {
         return soon;
     }
-    let end = last(lines[i - 1]);
-    if soon < end {
-        return end;
-    }
-    soon
+    soon.max(last(lines[i - 1]))
 }
 
 // Does the line before i end at a level?
@@ -84,10 +34,7 @@ fn ends_at(lines: &[u64], i: usize, level: u64) -> bool
     requires { i ≤ length lines.now }
     ensures { result ≡ true → (0 < i) × (last (get_or lines.now (i - 1) 0) ≡ level) }
 {
-    if i == 0 {
-        return false;
-    }
-    last(lines[i - 1]) == level
+    0 < i && last(lines[i - 1]) == level
 }
 
 // ---- the sweep
@@ -100,29 +47,25 @@ pub fn clear(lines: &[u64], abreast: &mut [u16]) -> bool
     requires lines_len_bound { (length lines.now ≤ 65535) × (length lines.now ≤ length abreast.old) }
     ensures { result ≡ true → NoClash (length lines.now) lines.now }
 {
+    let mut front = Front::new(lines, abreast);
     let mut i = lines.len();
-    let mut m = 0;
     let mut soon = 0;
-    while 0 < i + m {
+    // A line comes in, or lines go out: two counts fall by turns, which no range or iterator has, so no `for`.
+    while 0 < i + front.count() {
         let level = next_level(lines, i, soon);
-        let p = place(lines, abreast, m, level);
-        let e = starting(lines, abreast, m, p, level);
+        let from = front.place(level);
+        let to = front.starting(from, level);
         if ends_at(lines, i, level) {
             i -= 1;
-            if !come_in(lines, abreast, m, p, e, i) {
+            if !front.come_in(from, to, i) {
                 return false;
             }
             soon = first(lines[i]);
-            m = m + p + 1 - e;
         } else {
-            if p == e {
-                return false;
-            }
-            if !go_out(lines, abreast, m, p, e) {
+            if from == to || !front.go_out(from, to) {
                 return false;
             }
             soon = 0;
-            m = m + p - e;
         }
     }
     true

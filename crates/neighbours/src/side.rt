@@ -10,10 +10,7 @@ use segment::cross;
 fn ends(e: u64, p: u64, q: u64) -> bool
     ensures { result ≡ true → Ends (start_of e) (start_of p) (start_of q) }
 {
-    if e == p {
-        return true;
-    }
-    e == q
+    e == p || e == q
 }
 
 // Is r strictly to the right of the line from p to q, as it goes down?
@@ -28,18 +25,9 @@ fn beyond(p: u64, q: u64, r: u64, s: u64) -> bool
     ensures { result ≡ true → Beyond (start_of p) (start_of q) (start_of r) (start_of s) }
 {
     if ends(r, p, q) {
-        if r == s {
-            return true;
-        }
-        return right_of(p, q, s);
+        return r == s || right_of(p, q, s);
     }
-    if !right_of(p, q, r) {
-        return false;
-    }
-    if ends(s, p, q) {
-        return true;
-    }
-    right_of(p, q, s)
+    right_of(p, q, r) && (ends(s, p, q) || right_of(p, q, s))
 }
 
 // Is the line y beside the line x, to the right?
@@ -50,8 +38,5 @@ pub fn beside(x: u64, y: u64) -> bool
     let q = last(x);
     let r = first(y);
     let s = last(y);
-    if beyond(p, q, r, s) {
-        return true;
-    }
-    beyond(s, r, p, q)
+    beyond(p, q, r, s) || beyond(s, r, p, q)
 }

@@ -3,7 +3,7 @@
 use mathlib.Core.Path.{◌≡◌, refl, sym, ap, ◌∙◌, subst}
 use mathlib.Core.Logic.{◌≢◌, ◌⊎◌, inl, inr, ⊎_elim}
 use mathlib.Core.List.{List}
-use Prim.Native.Nat.{ℕ, ◌+◌, ◌<◌}
+use Prim.Native.Nat.{ℕ, ◌+◌, ◌≤◌, ◌<◌}
 use native.Mathlib.Decide.{ℕ_discrete}
 use native.Mathlib.Omega.{arith}
 use lib.Dec.{T}
@@ -15,7 +15,6 @@ use Rattle.table.specs.Table.{Side, left, right, link_of, records, Chained, Line
 use Rattle.table.specs.Trees.{roots}
 use Rattle.table.proofs.Accepted.{records_bounds, chain_within, link_within, parent_unique, root_unnamed}
 use Rattle.table.proofs.Ends.{above_node}
-use Rattle.chains.specs.inner.Listing.{Blank}
 use Rattle.records.specs.inner.Reading.{Nodes}
 use Rattle.records.proofs.Nodes.{node_chained, node_place, chained_below}
 use Rattle.parents.specs.inner.Parents.{Parents, above}
@@ -36,25 +35,20 @@ pub record Upward (t list up : List ℕ) (i : ℕ) : Type 0 where
   pub parents : (j : ℕ) (s : Side) → j < i → link_of t s (get_or list j 0) ≢ 0 → get_or up (link_of t s (get_or list j 0)) 0 ≡ get_or list j 0
   pub root : (k : ℕ) → T (member k (roots t)) → k ≢ 0 → get_or up k 0 ≡ 0
 
-pub upward_at : {t list up : List ℕ} {i n : ℕ} → Upward t list up i → i ≡ n → Upward t list up n
-upward_at {t} {list} {up} u e = subst (Upward t list up) e u
-
-module _ {t list : List ℕ} {n : ℕ} (l : Nodes t n list) where
-  pub upward_none : {up : List ℕ} → Blank up → Upward t list up 0
-  upward_none b = record { long = b.long; parents = λ j s h z. omega arith; root = λ k m z. b.zeros k }
-
-  link_fits : (i : ℕ) (s : Side) → i < n → link_of t s (get_or list i 0) < 4097
+module _ {t list : List ℕ} (l : Nodes t list) where
+  link_fits : (i : ℕ) (s : Side) → i < length list → link_of t s (get_or list i 0) < 4097
   link_fits i s h = omega (arith, link_within t l.accepted (get_or list i 0) s (node_chained l i h), records_bounds t l.accepted)
 
-  pub link_fits_by : {i k a : ℕ} (s : Side) → i < n → k ≡ get_or list i 0 → a ≡ link_of t s k → a < 4097
+  pub link_fits_by : {i k a : ℕ} (s : Side) → i < length list → k ≡ get_or list i 0 → a ≡ link_of t s k → a < 4097
   link_fits_by s h e x = rw (x, e) (link_fits _ s h)
 
   -- Two nodes with one link, which is not zero, are one.
-  one : (i j : ℕ) (s r : Side) → i < n → j < n → link_of t s (get_or list j 0) ≢ 0 → link_of t s (get_or list j 0) ≡ link_of t r (get_or list i 0) →
+  one : (i j : ℕ) (s r : Side) → i < length list → j < length list → link_of t s (get_or list j 0) ≢ 0 →
+      link_of t s (get_or list j 0) ≡ link_of t r (get_or list i 0) →
       get_or list i 0 ≡ get_or list j 0
   one i j s r h k z e = sym (parent_unique t l.accepted (get_or list j 0) (get_or list i 0) s r (node_chained l j k) (node_chained l i h) (omega arith) e).0
 
-  upward_more : {up : List ℕ} {i : ℕ} → i < n → Upward t list up i →
+  upward_more : {up : List ℕ} {i : ℕ} → i < length list → Upward t list up i →
       Upward t list (set (set up (link_of t left (get_or list i 0)) (get_or list i 0)) (link_of t right (get_or list i 0)) (get_or list i 0)) (i + 1)
   upward_more {up} {i} h u = record {
     long = simp length-set u.long;
@@ -82,15 +76,15 @@ module _ {t list : List ℕ} {n : ℕ} (l : Nodes t n list) where
           go (no q) = u.parents j s (omega arith) z
 
   -- The same, with the numbers as the code has them.
-  pub upward_by : {up : List ℕ} {i k a b : ℕ} → i < n → Upward t list up i → k ≡ get_or list i 0 → a ≡ link_of t left k → b ≡ link_of t right k →
+  pub upward_by : {up : List ℕ} {i k a b : ℕ} → i < length list → Upward t list up i → k ≡ get_or list i 0 → a ≡ link_of t left k → b ≡ link_of t right k →
       Upward t list (set (set up a (get_or list i 0)) b (get_or list i 0)) (i + 1)
   upward_by h u e x y = rw (x, y, e) (upward_more h u)
 
-  pub upward_all : {up : List ℕ} → Upward t list up n → Parents t up
-  upward_all {up} u = record {
+  pub upward_all : {up : List ℕ} {i : ℕ} → length list ≤ i → Upward t list up i → Parents t up
+  upward_all {up} f u = record {
     parent = λ k c s x. let p = node_place l k x.chained in
         let e : link_of t s (get_or list p.0 0) ≡ c = ap (link_of t s) p.2 ∙ x.links in
-        ap (λ (m : ℕ). get_or up m 0) (sym e) ∙ u.parents p.0 s p.1 (λ z. x.child (sym e ∙ z)) ∙ p.2;
+        ap (λ (m : ℕ). get_or up m 0) (sym e) ∙ u.parents p.0 s (omega (arith, p.1)) (λ z. x.child (sym e ∙ z)) ∙ p.2;
     root = u.root;
   }
 

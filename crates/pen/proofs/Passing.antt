@@ -7,10 +7,10 @@ use native.Mathlib.Numerals.{add-one}
 use native.Mathlib.Omega.{arith}
 use lib.ListN.{length, get_or, drop, drop_of_length-le}
 use lib.Seq.{drop-cons}
+use Rattle.std.specs.Prelude.{Option, None, Some}
+use Rattle.std.specs.declared.ops.ControlFlow.{ControlFlow}
 use Rattle.table.specs.Table.{left_of, right_of}
 use Rattle.pen.specs.declared.lines.Ends.{Ends}
-use Rattle.pen.specs.declared.lines.Step.{Step}
-use Rattle.pen.specs.declared.lines.Step.TheVariants.{Here, Past}
 use Rattle.pen.specs.Lines.{line_to, lines_from, line_at}
 use Rattle.pen.specs.inner.Steps.{after}
 
@@ -20,7 +20,7 @@ module _ (k : ℕ) (rest : List Ends) where
   no_line zero skip e = refl
   no_line (suc c) skip e = absurd (omega arith)
 
-  pub found : (child skip : ℕ) → child ≢ 0 → skip ≡ 0 → line_at (line_to k child ++ rest) skip ≡ record { parent = k; child = child }
+  pub found : (child skip : ℕ) → child ≢ 0 → skip ≡ 0 → line_at (line_to k child ++ rest) skip ≡ Some (record { parent = k; child = child })
   unfolding line_to
   found zero skip h e = absurd (h refl)
   found (suc c) zero h e = refl
@@ -32,25 +32,14 @@ module _ (k : ℕ) (rest : List Ends) where
   passed (suc c) zero h a = absurd (a refl)
   passed (suc c) (suc n) h a = let e : n ≡ suc n - 1 = omega arith in ap (line_at rest) e
 
--- What a step along the line to a child says; then of both lines of a node, with the links as the table has them.
-abbrev Along : ℕ → ℕ → ℕ → Step → Type 0
-Along k child skip r = (rest : List Ends) → line_at (line_to k child ++ rest) skip ≡ after r rest
-
-module _ (k skip a b : ℕ) {l : ℕ} {r : Step} (is-a : l ≡ a) (first : Along k l skip r) (rest : List Ends) where
-  pub on_first : {e : Ends} → r ≡ Here e → line_at (line_to k a ++ (line_to k b ++ rest)) skip ≡ e
-  on_first e = rw (sym is-a) (first (line_to k b ++ rest) ∙ ap (λ (x : Step). after x (line_to k b ++ rest)) e)
-
-  pub on_second : (n m : ℕ) (q : Step) → r ≡ Past n → m ≡ b → Along k m n q → line_at (line_to k a ++ (line_to k b ++ rest)) skip ≡ after q rest
-  on_second n m q e is_b second = rw (sym is-a, sym is_b) (first (line_to k m ++ rest) ∙ ap (λ (x : Step). after x (line_to k m ++ rest)) e ∙ second rest)
-
 module _ (t ks : List ℕ) (i : ℕ) where
   -- No lines are left past the last node.
-  pub past_last : (skip : ℕ) → length ks ≤ i → line_at (lines_from t (drop i ks)) skip ≡ record { parent = 0; child = 0 }
+  pub past_last : (skip : ℕ) → length ks ≤ i → line_at (lines_from t (drop i ks)) skip ≡ None
   unfolding lines_from
   past_last skip h = rw (drop_of_length-le ks h)
 
   -- A step around the node at place i leaves the same line to find among those from the next place on.
-  pub moves : (k skip : ℕ) (r : Step) {e : Ends} → i < length ks → get_or ks i 0 ≡ k
+  pub moves : (k skip : ℕ) (r : ControlFlow Ends ℕ) {e : Option Ends} → i < length ks → get_or ks i 0 ≡ k
       → ((rest : List Ends) → line_at (line_to k (left_of t k) ++ (line_to k (right_of t k) ++ rest)) skip ≡ after r rest)
       → line_at (lines_from t (drop i ks)) skip ≡ e → after r (lines_from t (drop (i + 1) ks)) ≡ e
   unfolding lines_from

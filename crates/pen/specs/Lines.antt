@@ -1,5 +1,6 @@
 -- The lines of a table as a list, in their order (document 02, Paper 2).
-use Rattle.std.specs.Prelude.{List, [], ◌∷◌, ◌++◌, ℕ, zero, suc, get_or}
+use Rattle.std.specs.Prelude.{List, [], ◌∷◌, ◌++◌, ℕ, zero, suc, Option}
+use Rattle.std.specs.List.{slice_get}
 use Rattle.table.specs.Table.{left_of, right_of, chain}
 use Rattle.pen.specs.declared.lines.Ends.{Ends}
 
@@ -17,6 +18,6 @@ lines_from t (k ∷ ks) = line_to k (left_of t k) ++ (line_to k (right_of t k) +
 abbrev pub lines : List ℕ → List Ends
 lines t = lines_from t (chain t)
 
--- Line i of a list, from 0; past the last, ends of which the child is 0.
-abbrev pub line_at : List Ends → ℕ → Ends
-line_at ls i = get_or ls i (record { parent = 0; child = 0 })
+-- Line i of a list, from 0; past the last there is none.
+abbrev pub line_at : List Ends → ℕ → Option Ends
+line_at ls i = slice_get ls i

@@ -10,23 +10,31 @@ ghost use Rattle.pen.specs.Strokes.{told, stroke_of};
 
 use crate::lines::line;
 use crate::strokes::{Stroke, choose};
+use records::forest::Forest;
 use records::trace;
+use table::Refusal;
 
-// The stroke of that number, from 0. The pitch of the grid is counted in quarter millimetres.
+// The stroke of that number, from 0, or none past the last. The pitch of the grid is counted in quarter millimetres.
 // Promised beyond this contract (promises/specs/Promises): `LinesPlottedOnce`, `StrokesNumbered`, `OneQuarter`, `OffChainStroke`.
 #[tactic(auto, using(crate::proofs::Answered::unpitched))]
-pub fn stroke(table: &[u8], placements: &[u16], pitch: u8, number: u64) -> Stroke
+pub fn stroke(
+    table: &[u8],
+    placements: &[u16],
+    pitch: u8,
+    number: u64,
+) -> Result<Option<Stroke>, Refusal>
     ensures { told result ≡ stroke_of table.now placements.now pitch number }
 {
     let mut chain = [0u16; 4097];
     let mut order = [0u16; 4097];
-    let reading = trace(table, placements.len(), &mut chain, &mut order);
-    if reading.refusal != 0 {
-        return Stroke::Refused(reading.refusal);
-    }
+    let count = trace(table, placements.len(), &mut chain, &mut order)?;
     if pitch == 0 {
-        return Stroke::Refused(7);
+        return Err(Refusal::Pitch);
     }
-    let ends = line(table, &chain, reading.nodes, number / 2);
-    choose(placements, pitch, ends, number)
+    let forest = Forest {
+        table,
+        nodes: &chain[..count],
+    };
+    let ends = line(forest, number / 2);
+    Ok(ends.map(|ends| choose(placements, pitch, ends, number)))
 }

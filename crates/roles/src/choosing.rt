@@ -1,97 +1,82 @@
 // The roles of a spine, chosen from the tree alone, before anything is placed (document 02, Paper 3). No other crate can name what is in here.
 // "004" is document 004, "01" document 01; the steps of each have numbers of their own.
-ghost use Rattle.std.specs.Prelude.{◌≡◌, length};
-ghost use Rattle.table.specs.Table.{left, right, Chained};
+ghost use Rattle.std.specs.Prelude.{◌≡◌};
+ghost use Rattle.table.specs.Table.{Chained};
 ghost use Rattle.table.specs.Tree.{tree_at};
-ghost use Rattle.table.specs.Refusal.{fault};
-ghost use Rattle.layout.specs.Spine.{spine, knee, facing, roles as roles_of};
-ghost use Rattle.roles.specs.Chosen.{side_of, code_of, with_roles};
-ghost use Rattle.roles.specs.inner.Sized.{Sized};
+ghost use Rattle.layout.specs.Spine.{spine, knee, ordinary, switch, facing, roles as roles_of};
+ghost use Rattle.roles.specs.Chosen.{side_of, with_roles};
 ghost use Rattle.roles.specs.inner.Roles.{Runs, Follows, hand_of, role_of};
 
-use crate::role::{Role, is_right, is_switch};
-use crate::{Fork, fork_at};
+use crate::role::Role;
+use crate::sides::Side;
+use crate::{Fork, Subtrees};
 
-// 004, Step 3(a) and (b); 01, step 2: after a left knee or an ordinary-left node.
-fn left_run(fork: Fork) -> Role
-    ensures { Runs left fork result }
+// 004, Steps 2, 3(c) and (d); 01, steps 1, 2 and 7: the first node of a spine, and one after a switch, is a knee. Of each kind a function gives the role on
+// a hand: a role that is a kind and a hand would hide document 01's six.
+fn knee_on(hand: Side) -> Role
+    ensures { (hand_of result ≡ side_of hand) × (role_of result ≡ knee) }
 {
-    if fork.hung == 0 {
-        return Role::OrdinaryLeft;
+    match hand {
+        Side::Left => Role::LeftKnee,
+        Side::Right => Role::RightKnee,
     }
-    if fork.hung_right {
-        return Role::OrdinaryLeft;
-    }
-    Role::SwitchRight
 }
 
-// 004, Step 3(d); 01, steps 2 and 7: after a right knee or an ordinary-right node.
-fn right_run(fork: Fork) -> Role
-    ensures { Runs right fork result }
+fn ordinary_on(hand: Side) -> Role
+    ensures { (hand_of result ≡ side_of hand) × (role_of result ≡ ordinary) }
 {
-    if fork.hung == 0 {
-        return Role::OrdinaryRight;
+    match hand {
+        Side::Left => Role::OrdinaryLeft,
+        Side::Right => Role::OrdinaryRight,
     }
-    if fork.hung_right {
-        return Role::SwitchLeft;
-    }
-    Role::OrdinaryRight
 }
 
-// 004, Steps 2, 3(c) and (d); 01, steps 1, 2 and 7: the first node of a spine, and one after a switch, is a knee.
-fn knee_on(right: bool) -> Role
-    ensures { (hand_of result ≡ side_of right) × (role_of result ≡ knee) }
+// A switch is named for the hand to which the spine goes over.
+fn switch_on(hand: Side) -> Role
+    ensures { (hand_of result ≡ side_of hand) × (role_of result ≡ switch) }
 {
-    if right {
-        return Role::RightKnee;
+    match hand {
+        Side::Left => Role::SwitchRight,
+        Side::Right => Role::SwitchLeft,
     }
-    Role::LeftKnee
+}
+
+// 004, Step 3(a), (b) and (d); 01, steps 2 and 7: after a knee or an ordinary node, a switch where a child hangs on the hand's own side.
+fn run_on(hand: Side, fork: Fork) -> Role
+    ensures { Runs (side_of hand) fork result }
+{
+    if fork.hung == 0 || fork.side.is_far(hand) {
+        return ordinary_on(hand);
+    }
+    switch_on(hand)
 }
 
 // 004, Step 3; 01, steps 2 and 7: the role of the spine node after one of role `before`.
 fn role_after(before: Role, fork: Fork) -> Role
     ensures { Follows before fork result }
 {
-    if is_switch(before) {
-        return knee_on(!is_right(before));
+    if before.is_switch() {
+        return knee_on(before.hand().other());
     }
-    if is_right(before) {
-        return right_run(fork);
-    }
-    left_run(fork)
+    run_on(before.hand(), fork)
 }
 
-// The number by which a role is kept.
-fn number_of(role: Role) -> u16
-    ensures { result ≡ code_of (hand_of role) (role_of role) }
+// 004, Steps 2 and 3; 01, steps 1, 2 and 7: keeps the role of every node of the spine from `root` on at the node's record, and nothing else. A `while`
+// follows the links of the spine, whose nodes stand in no list.
+#[tactic(auto, using(crate::proofs::Forks::named_within))]
+pub fn choose_roles(subtrees: Subtrees<'_>, roles: &mut [u16; 4097], root: usize, side: Side)
+    requires chained { Chained subtrees.table.now root }
+    ensures { roles.new ≡ with_roles (side_of side)
+        (roles_of (spine (facing (side_of side) (tree_at subtrees.entry.table.now root)))) roles.old }
 {
-    match role {
-        Role::LeftKnee => 0,
-        Role::OrdinaryLeft => 1,
-        Role::SwitchRight => 2,
-        Role::RightKnee => 3,
-        Role::OrdinaryRight => 4,
-        Role::SwitchLeft => 5,
-    }
-}
-
-// 004, Steps 2 and 3; 01, steps 1, 2 and 7: keeps the role of every node of the spine from `root` on at the node's record, and nothing else.
-pub fn choose_roles(table: &[u8], sizes: &[u16], roles: &mut [u16], root: usize, mirrored: bool)
-    requires table_value { fault table.now ≡ 0 }
-    requires chained { Chained table.now root }
-    requires sized { Sized table.now sizes.now }
-    requires roles_len { length roles.old ≡ 4097 }
-    ensures { roles.new ≡ with_roles (side_of mirrored)
-        (roles_of (spine (facing (side_of mirrored) (tree_at table.now root)))) roles.old }
-{
-    let first = fork_at(table, sizes, root, mirrored);
-    let mut role = knee_on(mirrored);
-    roles[root] = number_of(role);
+    let first = subtrees.fork_at(root, side);
+    let mut role = knee_on(side);
+    roles[root] = u16::from(role);
     let mut at = first.spine;
     while at != 0 {
-        let fork = fork_at(table, sizes, at, mirrored);
+        let fork = subtrees.fork_at(at, side);
         role = role_after(role, fork);
-        roles[at] = number_of(role);
+        roles[at] = u16::from(role);
         at = fork.spine;
     }
 }

@@ -1,10 +1,12 @@
 // The roles of spine nodes, and how the role that is kept for a node is read. Which role a node has is chosen elsewhere (choosing.rt).
 ghost use Rattle.std.specs.Prelude.{◌≡◌, ◌<◌, get_or, length};
-ghost use Rattle.table.specs.Table.{Side};
+ghost use Rattle.table.specs.Table.{Side as SideOf};
 ghost use Rattle.layout.specs.Spine.{Role as LayoutRole};
 ghost use Rattle.layout.specs.inner.Width.{edge};
 ghost use Rattle.roles.specs.Chosen.{side_of, code_of};
 ghost use Rattle.roles.specs.inner.Roles.{is_knee, is_switch, hand_of, role_of};
+
+use crate::sides::Side;
 
 // Document 01's six roles; specs/inner/Roles gives the hand of each, and what it is on that hand.
 #[derive(Clone, Copy)]
@@ -17,54 +19,63 @@ pub enum Role {
     SwitchLeft,
 }
 
-// Whether a role is one of the right hand's.
-pub fn is_right(role: Role) -> bool
-    ensures { side_of result ≡ hand_of role }
-{
-    match role {
-        Role::LeftKnee => false,
-        Role::OrdinaryLeft => false,
-        Role::SwitchRight => false,
-        Role::RightKnee => true,
-        Role::OrdinaryRight => true,
-        Role::SwitchLeft => true,
+impl Role {
+    // The hand that it is on.
+    pub fn hand(self) -> Side
+        ensures { side_of result ≡ hand_of self }
+    {
+        match self {
+            Role::LeftKnee | Role::OrdinaryLeft | Role::SwitchRight => Side::Left,
+            Role::RightKnee | Role::OrdinaryRight | Role::SwitchLeft => Side::Right,
+        }
+    }
+
+    pub fn is_knee(self) -> bool
+        ensures { result ≡ is_knee (role_of self) }
+    {
+        matches!(self, Role::LeftKnee | Role::RightKnee)
+    }
+
+    pub fn is_switch(self) -> bool
+        ensures { result ≡ is_switch (role_of self) }
+    {
+        matches!(self, Role::SwitchRight | Role::SwitchLeft)
+    }
+
+    // The column, from its hand's edge, where what hangs from a node of this role begins.
+    pub fn edge(self) -> usize
+        ensures { (result ≡ edge (role_of self)) × (result < 3) }
+    {
+        match self {
+            Role::OrdinaryLeft | Role::OrdinaryRight => 2,
+            _ => 1,
+        }
     }
 }
 
-pub fn is_knee(role: Role) -> bool
-    ensures { result ≡ is_knee (role_of role) }
-{
-    match role {
-        Role::LeftKnee => true,
-        Role::OrdinaryLeft => false,
-        Role::SwitchRight => false,
-        Role::RightKnee => true,
-        Role::OrdinaryRight => false,
-        Role::SwitchLeft => false,
+// The number by which a role is kept. The lists of roles hold numbers, since a caller lends them, used before for other numbers (no heap).
+impl From<Role> for u16 {
+    ghost from_gives = { λ role n. n ≡ code_of (hand_of role) (role_of role) };
+
+    fn from(role: Role) -> u16 {
+        match role {
+            Role::LeftKnee => 0,
+            Role::OrdinaryLeft => 1,
+            Role::SwitchRight => 2,
+            Role::RightKnee => 3,
+            Role::OrdinaryRight => 4,
+            Role::SwitchLeft => 5,
+        }
     }
 }
 
-pub fn is_switch(role: Role) -> bool
-    ensures { result ≡ is_switch (role_of role) }
-{
-    match role {
-        Role::LeftKnee => false,
-        Role::OrdinaryLeft => false,
-        Role::SwitchRight => true,
-        Role::RightKnee => false,
-        Role::OrdinaryRight => false,
-        Role::SwitchLeft => true,
-    }
-}
-
-// The role that is kept at a record.
+// The role that is kept at a record. No `TryFrom`: only numbers of roles are kept (`at_bound`).
 pub fn role_at(roles: &[u16], at: usize) -> Role
     requires at_in_bounds { at < length roles.now }
     requires at_bound { get_or roles.now at 0 < 6 }
     ensures { get_or roles.now at 0 ≡ code_of (hand_of result) (role_of result) }
 {
-    let number = roles[at];
-    match number {
+    match roles[at] {
         0 => Role::LeftKnee,
         1 => Role::OrdinaryLeft,
         2 => Role::SwitchRight,
@@ -74,25 +85,11 @@ pub fn role_at(roles: &[u16], at: usize) -> Role
     }
 }
 
-// Whether a node is on the right hand, by the role that is kept at its record.
-pub fn is_right_at(roles: &[u16], at: usize) -> bool
+// The hand that a node is on, by the role that is kept at its record.
+pub fn hand_at(roles: &[u16], at: usize) -> Side
     requires at_in_bounds { at < length roles.now }
     requires at_bound { get_or roles.now at 0 < 6 }
-    ensures { (a : Side) (o : LayoutRole) → get_or roles.now at 0 ≡ code_of a o → side_of result ≡ a }
+    ensures { (a : SideOf) (o : LayoutRole) → get_or roles.now at 0 ≡ code_of a o → side_of result ≡ a }
 {
-    is_right(role_at(roles, at))
-}
-
-// The column, from its hand's edge, where what hangs from a node of this role begins.
-pub fn edge_of(role: Role) -> usize
-    ensures { (result ≡ edge (role_of role)) × (result < 3) }
-{
-    match role {
-        Role::LeftKnee => 1,
-        Role::OrdinaryLeft => 2,
-        Role::SwitchRight => 1,
-        Role::RightKnee => 1,
-        Role::OrdinaryRight => 2,
-        Role::SwitchLeft => 1,
-    }
+    role_at(roles, at).hand()
 }

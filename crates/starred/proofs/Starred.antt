@@ -15,7 +15,7 @@ use Rattle.layout.specs.Layout.{width, height, shift, flip, mirror}
 use Rattle.layout.specs.Spine.{spine, opposite, seen, run_role, role_after, hand_after, roles_after, roles}
 use Rattle.layout.specs.Drawing.{hang, widest, join, place, steps, drawing, draw}
 use Rattle.layout.specs.Trees.{draw_from, width_of, height_of}
-use Rattle.drawing.specs.declared.Drawn.{Drawn}
+use Rattle.drawing.specs.Answer.{Drawn}
 use Rattle.drawing.specs.Answer.{store, store_all, plan_of, drawn_of, placed_in}
 use Rattle.segment.specs.Segment.{cross}
 use Rattle.segment.specs.inner.Test.{overlap, spans, astride}

@@ -1,6 +1,6 @@
 -- The starred sheets of document 01, "Sheets worked by hand", as one table over bytes and placements, and what it means that a case is right.
 use Rattle.std.specs.Prelude.{◌≡◌, List, [], ◌∷◌, ℕ, ◌/◌, ◌%◌}
-use Rattle.drawing.specs.declared.Drawn.{Drawn}
+use Rattle.drawing.specs.Answer.{Drawn}
 use Rattle.drawing.specs.Answer.{drawn_of, placed_in}
 use Rattle.verdict.specs.Verdict.{Verdict}
 use Rattle.width.specs.Allowed.{allowed_width}

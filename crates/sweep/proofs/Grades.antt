@@ -53,9 +53,22 @@ worse_apart a h = record { met = Separate; so = h; either = inl refl; first = om
 pub worse_new : (a m : Meeting) {P Q R S : Point} → grade a ≤ grade m → MeetSo m P Q R S → WorseWith a P Q R S m
 worse_new a m h x = record { met = m; so = x; either = inr refl; first = h; second = omega arith }
 
+-- Where lines touch and the others do not cross, and where they cross.
 pub worse_kept : (a : Meeting) {P Q R S : Point} → grade a ≢ 0 → (Crosses P Q R S → ⊥) → WorseWith a P Q R S a
 worse_kept a {P} {Q} {R} {S} h x = let k = some_kind P Q R S in
     record { met = k.0; so = k.1; either = inl refl; first = omega arith; second = omega (arith, uncrossed_grade k.0 P Q R S x k.1) }
+
+pub worse_touching : (a : Meeting) {P Q R S : Point} → a ≡ Touching → (Crosses P Q R S → ⊥) → WorseWith a P Q R S a
+worse_touching a e x = worse_kept a (λ z. let t = rw e at z in omega (arith, t)) x
+
+pub worse_crossing : (a : Meeting) {P Q R S : Point} → a ≡ Crossing → WorseWith a P Q R S a
+worse_crossing a {P} {Q} {R} {S} e = let k = some_kind P Q R S in record {
+  met = k.0;
+  so = k.1;
+  either = inl refl;
+  first = omega arith;
+  second = rw e (worst_grade Crossing k.0 refl);
+}
 
 -- ---- no worse
 
@@ -97,9 +110,6 @@ ends_apart a b p q r s h k l = (
 
 -- ---- the worst meeting with line i, from the line before it downwards
 
-pub from_none : (i : ℕ) (l : List ℕ) (w : Meeting) → WorstFrom i i l w w
-from_none i l w = record { found = inl refl; no_better = omega arith; none_worse = λ a h k. absurd (omega arith) }
-
 pub from_more : {j k i : ℕ} {l : List ℕ} {w m r : Meeting} → j < i → k ≡ j + 1 → WorstFrom k i l w m →
     WorseWith m (start_of (get_or l j 0)) (end_of (get_or l j 0)) (start_of (get_or l i 0)) (end_of (get_or l i 0)) r → WorstFrom j i l w r
 from_more {j} {k} {i} {l} {w} {m} {r} h e' f b =
@@ -129,17 +139,11 @@ from_ended {n} {j} {m} {i} {l} {w} {r} o s h k e e' f = record { found = f.found
     go a b (no z) = apart_no_worse r (get_or l a 0) (get_or l i 0)
         (ended (get_or l i 0) (get_or l a 0) (o.onward i h) (o.onward a (omega arith)) (omega (arith, before a (omega arith) (ℕ_discrete a j))))
 
-pub from_first : {j i : ℕ} {l : List ℕ} {w r : Meeting} → j ≡ 0 → WorstFrom j i l w r → WorstFrom 0 i l w r
-from_first e f = record { found = f.found; no_better = f.no_better; none_worse = λ a h k. f.none_worse a (omega arith) k }
-
 -- Points by what they are equal to.
 pub worse_at : {P Q R S A B C D : Point} {a r : Meeting} → P ≡ A → Q ≡ B → R ≡ C → S ≡ D → WorseWith a P Q R S r → WorseWith a A B C D r
 worse_at e f g h x = rw (← e, ← f, ← g, ← h) x
 
 -- ---- the worst meeting of two lines
-
-pub worst_none : (l : List ℕ) → Worst 0 l Separate
-worst_none l = record { found = inl refl; none_worse = λ i j h k. absurd (omega arith) }
 
 pub worst_more : {i : ℕ} {l : List ℕ} {w r : Meeting} → Worst i l w → WorstFrom 0 i l w r → Worst (i + 1) l r
 worst_more {i} {l} {w} {r} f a = record { found = ⊎_elim old (λ p. inr (i, omega arith, p)) a.found; none_worse = λ x y h k. go x y h k (ℕ_discrete y i) }

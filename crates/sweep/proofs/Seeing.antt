@@ -1,19 +1,20 @@
 -- Lines seen along an axis, and in another order: the worst meeting is the same. Rests on Grades, on the laws of the four kinds and on those of rearrangements.
-use mathlib.Core.Path.{◌≡◌, sym, subst}
+use mathlib.Core.Path.{◌≡◌, sym}
 use mathlib.Core.Logic.{◌⊎◌, inl, inr, ⊎_map}
 use mathlib.Core.Bool.{Bool, true, false}
 use mathlib.Core.List.{List}
-use Prim.Native.Nat.{ℕ, ◌≤◌, ◌<◌}
+use Prim.Native.Nat.{ℕ, ◌<◌}
 use native.Mathlib.Omega.{arith}
 use lib.ListN.{get_or, length}
+use Rattle.std.specs.Prelude.{Option, None, Some, IfSome}
 use Rattle.segment.specs.declared.Point.{Point}
 use Rattle.segment.specs.declared.meeting.Meeting.{Meeting}
 use Rattle.segment.specs.declared.meeting.Meeting.TheVariants.{Separate}
 use Rattle.segment.proofs.Alike.{Alike, alike_same, alike_then, alike_back, alike_exchange, alike_turn_first, alike_transpose}
 use Rattle.segment.proofs.FourKinds.{alike_kind}
-use Rattle.sort.specs.inner.Order.{Rearranged, Ascending}
+use Rattle.sort.specs.inner.Order.{Rearranged}
 use Rattle.sort.proofs.Rearranging.{turned, any_two, all_two}
-use Rattle.line.specs.inner.Line.{start_of, end_of, last, Onward}
+use Rattle.line.specs.inner.Line.{start_of, end_of}
 use Rattle.axis.specs.inner.Arranged.{view, Joined, Arranged, Settled}
 use Rattle.sweep.specs.inner.Meetings.{Met, NoWorse, Worst, Seen}
 use Rattle.sweep.proofs.Grades.{worst_at}
@@ -71,25 +72,17 @@ worst_arranged {across} {n} {a} {b} {m} r w = record {
 pub settled_seen : {n : ℕ} {a b : List ℕ} → Settled n a b → Seen n a b
 settled_seen s = record { worst = λ m h. worst_arranged s.arranged (worst_rearranged s.moved h) }
 
--- What is settled, with the length that it has then.
-pub long_at : {k n m : ℕ} → k ≡ n → n ≤ m → k ≤ m
-long_at e h = omega arith
-
-pub settled_onward : {n k : ℕ} {a b : List ℕ} → k ≡ n → Settled n a b → Onward k b
-settled_onward {b = b} e s = subst (λ (m : ℕ). Onward m b) (sym e) s.onward
-
-pub settled_ascends : {n k : ℕ} {a b : List ℕ} → k ≡ n → Settled n a b → Ascending last k b
-settled_ascends {b = b} e s = subst (λ (m : ℕ). Ascending last m b) (sym e) s.ascends
-
 pub seen_worst : {n k : ℕ} {a b : List ℕ} {m : Meeting} → k ≡ n → Seen n a b → Worst k b m → Worst n a m
 seen_worst {m = m} e s h = s.worst m (worst_at e h)
+
+-- The worst that a search finds, if it is not given up.
+pub some_seen : {n k : ℕ} {a b : List ℕ} (r : Option Meeting) → k ≡ n → Seen n a b → IfSome r (λ m. Worst k b m) → IfSome r (λ m. Worst n a m)
+some_seen None e s h = h
+some_seen (Some m) e s h = seen_worst e s h
 
 -- Lines that are found clear, seen as they are.
 pub seen_clear : {a b : List ℕ} → Seen (length a) a b → length b ≡ length a → Worst (length b) b Separate → Worst (length a) a Separate
 seen_clear s e h = seen_worst e s h
-
-pub seen_none : (n : ℕ) (a : List ℕ) → Seen n a a
-seen_none n a = record { worst = λ m h. h }
 
 pub seen_then : {n k : ℕ} {a b c : List ℕ} → k ≡ n → Seen n a b → Seen k b c → Seen n a c
 seen_then e s t = record { worst = λ m h. seen_worst e s (t.worst m (worst_at (sym e) h)) }

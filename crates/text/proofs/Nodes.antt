@@ -16,11 +16,12 @@ use Rattle.table.proofs.Lists.{member_cons}
 use Rattle.table.proofs.Accepted.{refusal_none, chain_within}
 use Rattle.fields.specs.Fields.{decimal, fields}
 use Rattle.text.specs.Text.{node_line, node_lines}
-use Rattle.fields.specs.inner.Put.{Put}
-use Rattle.fields.proofs.Puts.{put_then, put_length}
+use Rattle.fields.specs.declared.Writer.{Writer}
+use Rattle.fields.specs.inner.Put.{HasRoom, Put}
+use Rattle.fields.proofs.Puts.{put_then, put_nothing, put_length}
 
-pub put_node : (t p : List ℕ) (k g : ℕ) {P : Point} {a b c : List ℕ} {i j r : ℕ} → P ≡ point_of p k → g ≡ tag_of t k → Put (decimal k) a i j b →
-    Put (fields (P.column ∷ P.row ∷ g ∷ [])) b j r c → Put (node_line t p k) a i r c
+pub put_node : (t p : List ℕ) (k g : ℕ) {P : Point} {a b c : Writer} → P ≡ point_of p k → g ≡ tag_of t k → Put (decimal k) a b →
+    Put (fields (P.column ∷ P.row ∷ g ∷ [])) b c → Put (node_line t p k) a c
 unfolding node_line
 put_node t p k g d e x y = put_then x (rw (d, e) at y)
 
@@ -38,20 +39,20 @@ follow_cons zero t k h e = absurd (omega arith)
 follow_cons (suc n) t zero h e = absurd (omega arith)
 follow_cons (suc n) t (suc k) h e = rw (sub-one (suc n))
 
--- From the node k on, n nodes are left to write, from place j on: whoever does writes all lines from place i on.
-pub record Going (t p first : List ℕ) (i : ℕ) (l : List ℕ) (j n k : ℕ) : Type 0 where
+-- From the node k on, n nodes are left to write: whoever does writes all lines.
+pub record Going (t p : List ℕ) (first now : Writer) (n k : ℕ) : Type 0 where
   pub small : k < 65536
-  pub room : j + 24 * n ≤ length l
-  pub same : length l ≡ length first
+  pub room : HasRoom (24 * n) now
+  pub same : length now.out.now ≡ length first.out.now
   pub full : length (follow n t k) ≡ n
   pub within : (m : ℕ) → T (member m (follow n t k)) → (m < records t) × (2 * m + 1 < length p)
-  pub rest : (r : ℕ) (f : List ℕ) → Put (node_lines t p (follow n t k)) l j r f → Put (node_lines t p (chain t)) first i r f
+  pub rest : (w : Writer) → Put (node_lines t p (follow n t k)) now w → Put (node_lines t p (chain t)) first w
 
 module _ (t p : List ℕ) where
-  pub going_start : {l : List ℕ} {i n k : ℕ} → refusal t (length p) ≡ 0 → n ≡ length (chain t) → i + 24 * n ≤ length l → k ≡ next_of t 0 → k < 65536 →
-      Going t p l i l i n k
+  pub going_start : {a : Writer} {n k : ℕ} → refusal t (length p) ≡ 0 → n ≡ length (chain t) → HasRoom (24 * n) a → k ≡ next_of t 0 → k < 65536 →
+      Going t p a a n k
   unfolding chain
-  going_start {l} {i} {n} {k} ok e room at_first small =
+  going_start {a} {n} {k} ok e room at_first small =
       let fine = (refusal_none t (length p)).0 ok in
       let all : follow n t k ≡ chain t = rw (e, at_first) (follow_length (records t) t (next_of t 0)) in record {
         small = small;
@@ -59,10 +60,10 @@ module _ (t p : List ℕ) where
         same = refl;
         full = rw all (sym e);
         within = λ m h. let w = chain_within t fine.0 m (rw all at h) in (w.1, omega arith);
-        rest = λ r f x. rw all at x;
+        rest = λ w x. rw all at x;
       }
 
-  module _ {first l : List ℕ} {i j n k : ℕ} (g : Going t p first i l j n k) where
+  module _ {first now : Writer} {n k : ℕ} (g : Going t p first now n k) where
     ahead : 0 < n → follow n t k ≡ k ∷ follow (n - 1) t (next_of t k)
     ahead h = follow_cons n t k h g.full
 
@@ -70,18 +71,18 @@ module _ (t p : List ℕ) where
     pub going_here : 0 < n → (k < records t) × (2 * k + 1 < length p)
     going_here h = g.within k (rw (ahead h) ((member_cons k k (follow (n - 1) t (next_of t k))).1 (inl refl)))
 
-    pub going_next : {m : List ℕ} {e k' : ℕ} → 0 < n → Put (node_line t p k) l j e m → e ≤ j + 24 → k' ≡ next_of t k → k' < 65536 →
-        Going t p first i m e (n - 1) k'
+    pub going_next : {m : Writer} {k' : ℕ} → 0 < n → Put (node_line t p k) now m → m.at ≤ now.at + 24 → k' ≡ next_of t k → k' < 65536 →
+        Going t p first m (n - 1) k'
     unfolding node_lines
-    going_next {m} {e} {k'} h x le at_next small = record {
+    going_next {m} {k'} h x le at_next small = record {
       small = small;
       room = omega (arith, g.room, put_length x);
       same = put_length x ∙ g.same;
       full = rw at_next (omega (arith, g.full, ap length (ahead h)));
       within = λ a b. g.within a (rw (ahead h) ((member_cons a k (follow (n - 1) t (next_of t k))).1 (inr (rw at_next at b))));
-      rest = λ r f y. g.rest r f (rw (ahead h) (put_then x (rw at_next at y)));
+      rest = λ w y. g.rest w (rw (ahead h) (put_then x (rw at_next at y)));
     }
 
-    pub going_end : n ≤ 0 → Put (node_lines t p (chain t)) first i j l
+    pub going_end : n ≤ 0 → Put (node_lines t p (chain t)) first now
     unfolding node_lines follow
-    going_end h = let z : n ≡ 0 = omega arith in g.rest j l (rw z (record { place = omega arith; stored = refl }))
+    going_end h = let z : n ≡ 0 = omega arith in g.rest now (rw z (put_nothing now))

@@ -9,7 +9,7 @@ use Rattle.table.specs.Table.{tag_of, chain}
 use Rattle.table.specs.OffChain.{OffChain}
 use Rattle.table.proofs.Lists.{by_members}
 use Rattle.table.proofs.OffChain.{chain_same, tag_same}
-use Rattle.drawing.specs.declared.Drawn.{Drawn}
+use Rattle.drawing.specs.Answer.{Drawn}
 use Rattle.drawing.specs.Answer.{drawn_of, placed_in}
 use Rattle.drawing.proofs.OffChain.{off_chain_drawn}
 use Rattle.text.specs.Text.{plan_line, node_line, node_lines, refused_line, text_from, lent, text_of}

@@ -12,17 +12,30 @@ use borrow.Author.Tests.{lt-ltb, le-ltb, eq-eqb, ne_eqb}
 use Rattle.table.specs.Table.{chain}
 use Rattle.table.specs.Refusal.{refusal, fault}
 use Rattle.table.proofs.Accepted.{refusal_none, records_bounds}
-use Rattle.drawing.specs.declared.Drawn.{Drawn}
-use Rattle.drawing.specs.Answer.{plan_of, drawn_of, placed_in}
+use Rattle.std.specs.Prelude.{None, Some}
+use Rattle.table.specs.declared.Refusal.{Refusal}
+use Rattle.table.specs.Cause.{number_of, number_or_0}
+use Rattle.table.proofs.Refused.{some_number}
+use Rattle.drawing.specs.declared.Drawn.{Drawn as CodeDrawn}
+use Rattle.drawing.specs.Answer.{Drawn, said, plan_of, drawn_of, placed_in}
 use Rattle.drawing.proofs.Answered.{accepted, drawn_refusal}
 use Rattle.text.specs.Text.{plan_line, node_lines, refused_line, text_from, lent, text_of, text_within}
+use Rattle.fields.specs.declared.Writer.{Writer}
 use Rattle.fields.specs.inner.Put.{Put}
 
 -- What stands from the start of a buffer on.
-pub whole : {x y before after : List ℕ} {r : ℕ} → y ≡ x → Put x before 0 r after → r ≤ length before → (r ≡ length y) × (after ≡ y ++ drop r before)
-whole {x} {y} {before} {after} {r} e p h =
-    let l : r ≡ length x = omega (arith, p.place) in
-    rw e (l, p.stored ∙ sets-eq x before 0 (omega arith) ∙ rw (zero-add (length x), ← l))
+pub record Written (text : List ℕ) (a b : Writer) : Type 0 where
+  pub same : b.out.ghost_name ≡ a.out.ghost_name
+  pub place : b.at ≡ length text
+  pub buffer : b.out.now ≡ text ++ drop b.at a.out.now
+
+pub whole : {x y : List ℕ} {a b : Writer} → a.at ≡ 0 → y ≡ x → Put x a b → b.at ≤ length a.out.now → Written y a b
+whole {x} {y} {a} {b} z e p h =
+    let l : b.at ≡ length x = omega (arith, p.place) in record {
+      same = p.same;
+      place = rw e l;
+      buffer = rw e (rw z at p.stored ∙ sets-eq x a.out.now 0 (omega arith) ∙ rw (zero-add (length x), ← l));
+    }
 
 pub text_none : (n : ℕ) (t : List ℕ) → n < 98328 → text_within n t ≡ []
 unfolding text_within
@@ -46,6 +59,24 @@ module _ (n : ℕ) (t : List ℕ) {d : Drawn} (room : 98328 ≤ n) (drawn : d �
   pub all_nodes : d.refusal ≡ 0 → d.plan.nodes ≡ length (chain t)
   unfolding plan_of
   all_nodes e = ap (λ (x : Drawn). x.plan.nodes) (drawn ∙ (accepted t lent (not_refused e)).drawn)
+
+-- The text of an answer.
+module _ (n : ℕ) (t : List ℕ) (room : 98328 ≤ n) where
+  pub text_planned : (d : CodeDrawn) {p : List ℕ} → d.refusal ≡ None → said d ≡ drawn_of t lent → p ≡ placed_in t lent →
+      text_within n t ≡ plan_line d.plan ++ node_lines t p (chain t)
+  unfolding said
+  text_planned d z e q = text_drawn n t room e (ap number_or_0 z) q
+
+  pub text_told : (d : CodeDrawn) (r : Refusal) → d.refusal ≡ Some r → said d ≡ drawn_of t lent → text_within n t ≡ refused_line (number_of r)
+  unfolding said
+  text_told d r z e =
+      let number : number_or_0 d.refusal ≡ number_of r = ap number_or_0 z in
+      text_refused n t room e (λ x. some_number r (sym number ∙ x)) ∙ ap refused_line number
+
+-- The table of a plan is not refused, and the plan has all its nodes.
+pub planned : (t : List ℕ) (d : CodeDrawn) → d.refusal ≡ None → said d ≡ drawn_of t lent → (refusal t (length lent) ≡ 0) × (d.plan.nodes ≡ length (chain t))
+unfolding said
+planned t d z e = (not_refused 98328 t (omega arith) e (ap number_or_0 z), all_nodes 98328 t (omega arith) e (ap number_or_0 z))
 
 -- The placements lent are enough: the text never says `refused 6`.
 pub enough : (t : List ℕ) → refusal t (length lent) ≡ fault t

@@ -4,7 +4,7 @@ use Rattle.fields.specs.Fields.{decimal, fields}
 use Rattle.placements.specs.Placements.{column_of, row_of}
 use Rattle.table.specs.Table.{tag_of, chain}
 use Rattle.drawing.specs.declared.Plan.{Plan}
-use Rattle.drawing.specs.declared.Drawn.{Drawn}
+use Rattle.drawing.specs.Answer.{Drawn}
 use Rattle.drawing.specs.Answer.{drawn_of, placed_in}
 
 -- "It prints `plan`, then boxes, width and height": 112 is p, 108 l, 97 a, 110 n

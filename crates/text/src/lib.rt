@@ -8,11 +8,13 @@ ghost use Rattle.text.specs.Text.{text_within};
 
 use crate::lines::{put_plan, put_refusal};
 use drawing::draw;
+use fields::Writer;
 
 // Enough for a header and 4,096 nodes, at 24 bytes a line.
 pub const ROOM: usize = 98328;
 
-// Draws the trees of a table and writes the text at the start of out; answers how many bytes. A buffer without ROOM is left as it is.
+// Draws the trees of a table and writes the text at the start of out; answers how many bytes. A buffer without ROOM is left as it is,
+// and 0 the answer (the clause `value`).
 // Promised beyond this contract (promises/specs/Promises): `NeverSix`, `DigitsWhole`, `OffChainText`.
 pub fn write_text(table: &[u8], out: &mut [u8]) -> usize
     ensures value { result ≡ length (text_within (length out.old) table.now) }
@@ -22,11 +24,11 @@ pub fn write_text(table: &[u8], out: &mut [u8]) -> usize
         return 0;
     }
     let mut placements = [0u16; 8194];
+    let mut writer = Writer::new(out);
     let drawn = draw(table, &mut placements);
-    let refusal = drawn.refusal;
-    if refusal != 0 {
-        return put_refusal(refusal, out);
+    match drawn.refusal {
+        None => put_plan(table, &placements, drawn.plan, &mut writer),
+        Some(refusal) => put_refusal(refusal, &mut writer),
     }
-    let plan = drawn.plan;
-    put_plan(table, &placements, plan, out)
+    writer.at
 }

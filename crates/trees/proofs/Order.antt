@@ -7,8 +7,8 @@ use native.Mathlib.Decide.{dec_lt}
 use native.Mathlib.Numerals.{add-one}
 use native.Mathlib.Omega.{arith}
 use lib.Dec.{T, eqb-zero-suc, eqb-suc-zero}
-use lib.ListN.{length, get_or, take, drop, length-append, take-append-drop}
-use lib.Seq.{take-suc, get_or-take, take-append-le, length-take-le}
+use lib.ListN.{length, get_or, take, drop, length-append, length-drop, take-append-drop}
+use lib.Seq.{take-suc, take-length, get_or-take, take-append-le, length-take-le}
 use Rattle.table.specs.Lists.{member, count}
 use Rattle.table.specs.Table.{records, left_of, right_of, chain, root_of, Chained}
 use Rattle.table.specs.Trees.{links, roots}
@@ -146,20 +146,25 @@ module _ (t order : List ℕ) (r : Rooted t) where
   pub roots_few : length (roots t) < 4097
   roots_few = queue_length t r 0 (roots t) (queue_start t r)
 
-  pub spread_start : (n : ℕ) → length order ≡ 4097 → n ≡ length (roots t) → take n order ≡ roots t → Spreading t order 0 n
-  spread_start n l e f = record { queue = rw f (queue_start t r); ahead = omega arith; room = omega (arith, roots_few); long = l }
+  pub spread_start : (list : List ℕ) → list ≡ roots t → length order ≡ 4097 → Spreading t (list ++ drop (length list) order) 0 (length list)
+  spread_start list e l = record {
+    queue = rw (take-append-le (length list) list _ (omega arith), take-length, e) (queue_start t r);
+    ahead = omega arith;
+    room = omega (arith, ap length e, roots_few);
+    long = omega (arith, ap length e, roots_few, length-append list (drop (length list) order), length-drop (length list) order);
+  }
 
-  module _ (head tail : ℕ) (s : Spreading t order head tail) (lt : head < tail) where
+  module _ (head tail : ℕ) (s : Spreading t order head tail) (lt : head < tail) (k : ℕ) (p : k ≡ get_or order head 0) where
     first_tail : length (take tail order) ≡ tail
     first_tail = length-take-le tail order (omega (arith, s.room, s.long))
 
-    at_head : get_or (take tail order) head 0 ≡ get_or order head 0
-    at_head = get_or-take tail order head 0 lt
+    at_head : get_or (take tail order) head 0 ≡ k
+    at_head = get_or-take tail order head 0 lt ∙ sym p
 
-    pub spread_inside : get_or order head 0 < records t
+    pub spread_inside : k < records t
     spread_inside = rw (← at_head) (sound_within t r.sound _ (queue_chained t head (take tail order) s.queue head (omega (arith, first_tail)))).1
 
-    module _ (a b : ℕ) (ea : a ≡ left_of t (get_or order head 0)) (eb : b ≡ right_of t (get_or order head 0)) where
+    module _ (a b : ℕ) (ea : a ≡ left_of t k) (eb : b ≡ right_of t k) where
       step : Queue t (head + 1) ((take tail order ++ present (a ∷ [])) ++ present (b ∷ []))
       step = rw (ea, eb, ← at_head) (queue_step t r head (take tail order) s.queue (omega (arith, first_tail)))
 

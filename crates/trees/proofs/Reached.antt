@@ -160,14 +160,13 @@ module _ (t order : List ℕ) (m n : ℕ) (r : Rooted t) (long : length order �
         go false d = (missed (eqb-false m n d), λ y. absurd (false≢true y))
 
 -- What is filled for a whole order is filled for the chain.
-pub filled_chain : (t order : List ℕ) (n : ℕ) → n ≤ length order → Queue t n (take n order) → n ≡ length (chain t) →
-    (sizes : List ℕ) → Filled t (take n order) sizes → Filled t (chain t) sizes
-filled_chain t order n long q nodes sizes f = record {
+pub filled_chain : (t order sizes : List ℕ) → Queue t (length order) order → length order ≡ length (chain t) → Filled t order sizes → Filled t (chain t) sizes
+filled_chain t order sizes q nodes f = record {
   long = f.long;
-  sized = λ k h. f.sized k ((member_count k (take n order)).1 (omega (
+  sized = λ k h. f.sized k ((member_count k order).1 (omega (
     arith,
     (member_count k (chain t)).0 h,
-    within_back (take n order) (chain t) q.within (omega (arith, length-take-le n order long)) k,
+    within_back order (chain t) q.within (omega arith) k,
   )));
   none = f.none;
 }

@@ -48,13 +48,16 @@ pub unfilled : (t sizes : List ℕ) → length sizes ≡ 4097 → Filled t [] (s
 unfolding member
 unfilled t sizes l = record { long = simp length-set l; sized = λ k h. absurd h; none = get_or-set_same sizes 0 0 0 (omega arith) }
 
-pub rootless : (t : List ℕ) (n : ℕ) (list order : List ℕ) → Listed t (chain t) n list → root_of t ≡ 0 → Grown t (eqb n 0) n order
-rootless t n list order l e = go (eqb n 0) refl
+pub rootless : (t list order : List ℕ) → Listed t (chain t) list → root_of t ≡ 0 → Grown t (eqb (length list) 0) (length list) order
+rootless t list order l e = go (eqb (length list) 0) refl
   where
-    go : (b : Bool) → eqb n 0 ≡ b → Grown t b n order
-    go true d = let z = eqb-true n 0 d in
-        record { good = rw (tree_empty t l.shaped e (sym l.nodes ∙ z)); ordered = λ y. record { enough = omega arith; queued = λ some. absurd (some z) } }
-    go false d = grown_bad t n order (tree_headless t l.sound e (λ z. eqb-false n 0 d (l.nodes ∙ z)))
+    go : (b : Bool) → eqb (length list) 0 ≡ b → Grown t b (length list) order
+    go true d = let z = eqb-true (length list) 0 d in
+        record {
+          good = rw (tree_empty t l.shaped e (ap length (sym l.listed) ∙ z));
+          ordered = λ y. record { enough = omega arith; queued = λ some. absurd (some z) };
+        }
+    go false d = grown_bad t (length list) order (tree_headless t l.sound e (λ z. eqb-false (length list) 0 d (ap length l.listed ∙ z)))
 
 -- With a root other than zero.
 module _ (t : List ℕ) (root : ℕ) (e : root ≡ root_of t) (some : root ≡ 0 → ⊥) where

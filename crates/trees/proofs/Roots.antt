@@ -1,22 +1,21 @@
 -- Listing the roots: the head's, and then those of the nodes of the chain that are not named, one node after the other. Rests on Lists, Causes and Scan.
-use mathlib.Core.Path.{◌≡◌, refl, sym, ap, ◌∙◌}
-use mathlib.Core.Logic.{⊎_elim}
-use mathlib.Core.Bool.{Bool, true, false, not, ◌||◌, and-false}
+use mathlib.Core.Path.{◌≡◌, sym, ap, ◌∙◌}
+use mathlib.Core.Bool.{Bool, true, false, not, ◌||◌, and-false, or-true}
 use mathlib.Core.List.{List, [], ◌∷◌, ◌++◌, append-nil}
 use Prim.Native.Nat.{ℕ, suc, ◌+◌, ◌≤◌, ◌<◌}
 use native.Mathlib.Numerals.{add-one}
 use native.Mathlib.Omega.{arith}
 use borrow.Author.Count.{below_none, below_more}
-use lib.Dec.{T, eqb, ltb}
-use lib.ListN.{length, get_or, take, set}
-use lib.Seq.{take-suc, take-suc-set}
+use lib.Dec.{eqb, ltb}
+use lib.ListN.{length, get_or, take, set, length-set}
+use lib.Seq.{take-suc, take-suc-set, take-length}
 use borrow.Author.Tests.{eq-eqb, ne_eqb, lt-ltb, le-ltb}
-use Rattle.table.specs.Lists.{member, select}
+use Rattle.table.specs.Lists.{select}
 use Rattle.table.specs.Table.{root_of, chain}
 use Rattle.table.specs.Trees.{named, starts_tree}
 use Rattle.chains.specs.inner.Listing.{Listed}
-use Rattle.trees.specs.inner.Steps.{Tallied, RootList, named_twice, starts_by_tally}
-use Rattle.table.proofs.Lists.{or_false, member_cons, select_append, select_same}
+use Rattle.trees.specs.inner.Steps.{Tallied, Found, named_twice}
+use Rattle.table.proofs.Lists.{or_false, select_append}
 use Rattle.table.proofs.Causes.{sound_length}
 use Rattle.chains.proofs.Scan.{listed_inside, scan_hit, scan_none}
 
@@ -29,116 +28,90 @@ pub select_none : (f : ℕ → Bool) (k : ℕ) → f k ≡ false → select f (k
 unfolding select
 select_none f k e = rw (select, e)
 
--- A number put at the end of a list, or not.
-pub left_out : (f : ℕ → Bool) (k n : ℕ) (l : List ℕ) → f k ≡ false → (n ≡ n + length (select f (k ∷ []))) × (take n l ≡ take n l ++ select f (k ∷ []))
-left_out f k n l e = rw (select_none f k e) (omega arith, sym (append-nil (take n l)))
-
-pub put_last : (f : ℕ → Bool) (k n : ℕ) (l : List ℕ) → f k ≡ true → n < length l →
-    (n + 1 ≡ n + length (select f (k ∷ []))) × (take (n + 1) (set l n k) ≡ take n l ++ select f (k ∷ []))
-put_last f k n l e h = rw (select_one f k e) (refl, rw add-one (take-suc-set l n k h))
-
-pub unnamed_root : (root : ℕ) (tally : List ℕ) (k : ℕ) → k ≡ root → starts_by_tally root tally k ≡ false
-unfolding starts_by_tally
-unnamed_root root tally k e = rw (eq-eqb k root e)
-
-pub unnamed_not : (root : ℕ) (tally : List ℕ) (k : ℕ) → (get_or tally k 0 ≡ 0 → ⊥) → starts_by_tally root tally k ≡ false
-unfolding starts_by_tally
-unnamed_not root tally k e = rw (ne_eqb (get_or tally k 0) 0 e, and-false)
-
-pub unnamed_other : (root : ℕ) (tally : List ℕ) (k : ℕ) → (k ≡ root → ⊥) → get_or tally k 0 ≡ 0 → starts_by_tally root tally k ≡ true
-unfolding starts_by_tally
-unnamed_other root tally k n e = rw (ne_eqb k root n, eq-eqb (get_or tally k 0) 0 e)
-
-few_passed : (f : ℕ → Bool) (k : ℕ) → length (select f (k ∷ [])) ≤ 1
-few_passed f k = go (f k) refl
-  where
-    go : (b : Bool) → f k ≡ b → length (select f (k ∷ [])) ≤ 1
-    go true e = omega (arith, ap length (select_one f k e))
-    go false e = omega (arith, ap length (select_none f k e))
-
 -- The roots among the first i nodes are listed behind the head's, and none of these nodes is named twice.
-pub record Noting (t list : List ℕ) (n : ℕ) (found : List ℕ) (count i : ℕ) : Type 0 where
-  pub ahead : i ≤ n
+pub record Noting (t list found : List ℕ) (count i : ℕ) : Type 0 where
   pub once : (j : ℕ) → j < i → ltb 1 (named t (get_or list j 0)) ≡ false
   pub listed : take count found ≡ root_of t ∷ select (starts_tree t) (take i list)
-  pub some : 1 ≤ count
   pub few : count ≤ suc i
   pub long : length found ≡ 4097
 
-module _ (t list : List ℕ) (n : ℕ) (l : Listed t (chain t) n list) (root : ℕ) (e : root ≡ root_of t) (z : named t root ≡ 0) where
-  head_unnamed : not (eqb (named t (root_of t)) 0) ≡ false
-  head_unnamed = rw (eq-eqb (named t (root_of t)) 0 (ap (named t) (sym e) ∙ z))
+module _ (t list : List ℕ) (l : Listed t (chain t) list) (root : ℕ) (e : root ≡ root_of t) (tally : List ℕ) (y : Tallied t tally) where
+  pub nodes_few : length list < 4097
+  nodes_few = omega (arith, ap length l.listed, sound_length t l.shaped.whole l.sound, l.shaped.room)
 
-  pub nodes_few : n < 4097
-  nodes_few = omega (arith, l.nodes, sound_length t l.shaped.whole l.sound, l.shaped.room)
-
-  pub note_start : (found : List ℕ) → length found ≡ 4097 → take 1 found ≡ root ∷ [] → Noting t list n found 1 0
+  pub note_start : (found : List ℕ) → length found ≡ 4097 → Noting t list (set found 0 root) 1 0
   unfolding select
-  note_start found h f = record {
-    ahead = omega arith;
+  note_start found h = record {
     once = below_none _;
-    listed = f ∙ ap (λ (k : ℕ). k ∷ []) e;
-    some = omega arith;
+    listed = take-suc-set found 0 root (omega arith) ∙ ap (λ (k : ℕ). k ∷ []) e;
     few = omega arith;
-    long = h;
+    long = simp length-set h;
   }
 
-  module _ (tally : List ℕ) (y : Tallied t tally) where
-    tallied : (i : ℕ) → i < n → get_or tally (get_or list i 0) 0 ≡ named t (get_or list i 0)
-    tallied i h = y.tallies (get_or list i 0) (omega (arith, listed_inside t (chain t) n list l i h, l.shaped.room))
+  -- The head's root is named.
+  pub note_named : root < 4097 → (get_or tally root 0 ≡ 0 → ⊥) → not (eqb (named t (root_of t)) 0) || named_twice t ≡ true
+  note_named b h = rw (sym e, ne_eqb (named t root) 0 (λ z. h (y.tallies root b ∙ z)))
 
-    pub note_twice : (found : List ℕ) (i : ℕ) → i < n → 1 < get_or tally (get_or list i 0) 0 → RootList t 0 found
+  module _ (b : root < 4097) (z : get_or tally root 0 ≡ 0) where
+    head_unnamed : not (eqb (named t (root_of t)) 0) ≡ false
+    head_unnamed = rw (← e, eq-eqb (named t root) 0 (sym (y.tallies root b) ∙ z))
+
+    pub note_end : (found : List ℕ) (count i : ℕ) → Noting t list found count i → i ≡ length list → Found t count found
     unfolding named_twice
-    note_twice found i h g = record {
-      ill = λ d. ap (λ (b : Bool). b || named_twice t) head_unnamed ∙
-          scan_hit t (chain t) n list l (λ k. ltb 1 (named t k)) i h (lt-ltb 1 (named t (get_or list i 0)) (omega (arith, tallied i h)));
-      well = λ d. absurd (d refl);
-      room = omega arith;
-      listed = λ d. absurd (d refl);
+    note_end found count i g m = record {
+      well = (or_false (not (eqb (named t (root_of t)) 0)) (named_twice t)).1
+          (head_unnamed, scan_none t (chain t) list l (λ k. ltb 1 (named t k)) (λ j h. g.once j (omega (arith, h, m))));
+      room = omega (arith, g.few, nodes_few, g.long, m);
+      listed = g.listed ∙ ap (λ (ks : List ℕ). root_of t ∷ select (starts_tree t) ks) (ap (λ (j : ℕ). take j list) m ∙ take-length list ∙ l.listed);
     }
 
-    pub note_step : (found after : List ℕ) (count r i : ℕ) → Noting t list n found count i → i < n → get_or tally (get_or list i 0) 0 ≤ 1 →
-        r ≡ count + length (select (starts_by_tally root tally) (get_or list i 0 ∷ [])) →
-        take r after ≡ take count found ++ select (starts_by_tally root tally) (get_or list i 0 ∷ []) → length after ≡ 4097 →
-        Noting t list n after r (i + 1)
-    unfolding starts_tree starts_by_tally
-    note_step found after count r i g h one d f long = record {
-      ahead = omega arith;
-      once = below_more _ _ g.once (le-ltb 1 (named t (get_or list i 0)) (omega (arith, tallied i h)));
-      listed = f ∙ ap (λ (ks : List ℕ). ks ++ select (starts_by_tally root tally) (get_or list i 0 ∷ [])) g.listed
-          ∙ ap (λ (ks : List ℕ). root_of t ∷ (select (starts_tree t) (take i list) ++ ks)) alike_here
-          ∙ ap (λ (ks : List ℕ). root_of t ∷ ks) (sym (ap (select (starts_tree t)) next ∙ select_append (starts_tree t) (take i list) (get_or list i 0 ∷ [])));
-      some = omega (arith, g.some);
-      few = omega (arith, g.few, few_passed (starts_by_tally root tally) (get_or list i 0));
-      long = long;
-    }
-      where
-        next : take (i + 1) list ≡ take i list ++ (get_or list i 0 ∷ [])
-        next = rw add-one (take-suc list i 0 (omega (arith, l.long)))
+  module _ (i : ℕ) (h : i < length list) (k : ℕ) (p : k ≡ get_or list i 0) where
+    pub note_inside : k < 4097
+    note_inside = omega (arith, p, listed_inside t (chain t) list l i h, l.shaped.room)
 
-        alike_here : select (starts_by_tally root tally) (get_or list i 0 ∷ []) ≡ select (starts_tree t) (get_or list i 0 ∷ [])
-        alike_here =
-            select_same (starts_by_tally root tally) (starts_tree t) (get_or list i 0 ∷ [])
-            (λ k m. ⊎_elim (λ (d : k ≡ get_or list i 0). rw (d, e, tallied i h)) (λ (n : T (member k [])). absurd (unfold member in n))
-            ((member_cons k (get_or list i 0) []).0 m))
+    tallied : get_or tally k 0 ≡ named t (get_or list i 0)
+    tallied = y.tallies k note_inside ∙ ap (named t) p
 
-  pub note_end : (found : List ℕ) (count i : ℕ) → Noting t list n found count i → n ≤ i → RootList t count found
-  unfolding named_twice
-  note_end found count i g h =
-      let m : i ≡ n = omega (arith, g.ahead) in
-      record {
-        ill = λ d. absurd (omega (arith, g.some));
-        well = λ d. (or_false (not (eqb (named t (root_of t)) 0)) (named_twice t)).1
-            (head_unnamed, scan_none t (chain t) n list l (λ k. ltb 1 (named t k)) (λ j q. g.once j (omega arith)));
-        room = omega (arith, g.few, g.ahead, nodes_few, g.long);
-        listed = λ d. g.listed ∙ ap (λ (ks : List ℕ). root_of t ∷ select (starts_tree t) ks) (ap (λ (j : ℕ). take j list) m ∙ l.listed);
+    pub note_twice : 1 < get_or tally k 0 → not (eqb (named t (root_of t)) 0) || named_twice t ≡ true
+    unfolding named_twice
+    note_twice g = rw (scan_hit t (chain t) list l (λ n. ltb 1 (named t n)) i h (lt-ltb 1 (named t (get_or list i 0)) (omega (arith, tallied))), or-true)
+
+    module _ (found : List ℕ) (count : ℕ) (g : Noting t list found count i) (one : get_or tally k 0 ≤ 1) where
+      once_more : (j : ℕ) → j < i + 1 → ltb 1 (named t (get_or list j 0)) ≡ false
+      once_more = below_more _ _ g.once (le-ltb 1 (named t (get_or list i 0)) (omega (arith, tallied)))
+
+      next : select (starts_tree t) (take (i + 1) list) ≡ select (starts_tree t) (take i list) ++ select (starts_tree t) (get_or list i 0 ∷ [])
+      next = ap (select (starts_tree t)) (rw add-one (take-suc list i 0 h)) ∙ select_append (starts_tree t) (take i list) (get_or list i 0 ∷ [])
+
+      -- A root.
+      pub note_root : (k ≡ root → ⊥) → get_or tally k 0 ≡ 0 → Noting t list (set found count (get_or list i 0)) (count + 1) (i + 1)
+      unfolding starts_tree
+      note_root n d =
+          let passes : starts_tree t (get_or list i 0) ≡ true =
+          rw (ne_eqb (get_or list i 0) (root_of t) (λ q. n (p ∙ q ∙ sym e)), eq-eqb (named t (get_or list i 0)) 0 (sym tallied ∙ d)) in
+          record {
+            once = once_more;
+            listed = rw add-one (take-suc-set found count (get_or list i 0) (omega (arith, g.few, g.long, nodes_few)))
+                ∙ ap (λ (ks : List ℕ). ks ++ (get_or list i 0 ∷ [])) g.listed
+                ∙ ap (λ (ks : List ℕ). root_of t ∷ ks) (sym (next ∙ ap (λ (ks : List ℕ). select (starts_tree t) (take i list) ++ ks) (select_one _ _ passes)));
+            few = omega (arith, g.few);
+            long = simp length-set g.long;
+          }
+
+      -- Another node.
+      other : starts_tree t (get_or list i 0) ≡ false → Noting t list found count (i + 1)
+      other fails = record {
+        once = once_more;
+        listed = g.listed ∙ ap (λ (ks : List ℕ). root_of t ∷ ks)
+            (sym (next ∙ ap (λ (ks : List ℕ). select (starts_tree t) (take i list) ++ ks) (select_none _ _ fails) ∙ append-nil _));
+        few = omega (arith, g.few);
+        long = g.long;
       }
 
--- The head's root is named.
-pub note_named : (t found : List ℕ) (root : ℕ) → root ≡ root_of t → (named t root ≡ 0 → ⊥) → RootList t 0 found
-note_named t found root e h = record {
-  ill = λ d. rw (sym e, ne_eqb (named t root) 0 h);
-  well = λ d. absurd (d refl);
-  room = omega arith;
-  listed = λ d. absurd (d refl);
-}
+      pub note_head : k ≡ root → Noting t list found count (i + 1)
+      unfolding starts_tree
+      note_head q = other (rw (eq-eqb (get_or list i 0) (root_of t) (sym p ∙ q ∙ e)))
+
+      pub note_child : (get_or tally k 0 ≡ 0 → ⊥) → Noting t list found count (i + 1)
+      unfolding starts_tree
+      note_child d = other (rw (ne_eqb (named t (get_or list i 0)) 0 (λ q. d (tallied ∙ q)), and-false))

@@ -7,7 +7,7 @@ use Prim.Native.Nat.{ℕ, suc, ◌+◌, ◌*◌, ◌≤◌, ◌<◌}
 use native.Mathlib.Numerals.{add-one}
 use native.Mathlib.Omega.{arith}
 use lib.ListN.{length, get_or, take, set, length-set, length-append, get_or-eq_default}
-use lib.Seq.{take-suc, get_or-set_same, get_or-set_other, length-take-le}
+use lib.Seq.{take-suc, take-length, get_or-set_same, get_or-set_other, length-take-le}
 use lib.Dec.{ltb}
 use borrow.Author.Tests.{ltb-true, ltb-false}
 use Rattle.table.specs.Lists.{count}
@@ -59,22 +59,25 @@ counts_more ks tally after n c e = rw e (record { long = simp length-set c.long;
     go k h (inr e) = rw (get_or-set_other tally n k (get_or tally n 0 + 1) 0 e.0) (omega (arith, c.counts k h))
 
 -- The links of the first records of the chain, and of one more.
-module _ (t list : List ℕ) (n : ℕ) (l : Listed t (chain t) n list) where
-  pub links_few : (i : ℕ) → i < n → length (links t (take i list)) ≤ 8192
+module _ (t list : List ℕ) (l : Listed t (chain t) list) where
+  pub links_few : (i : ℕ) → i < length list → length (links t (take i list)) ≤ 8192
   links_few i h =
       omega (
         arith,
         length_links t (take i list),
-        length-take-le i list (omega (arith, l.long)),
-        l.nodes,
+        length-take-le i list (omega arith),
+        ap length l.listed,
         sound_length t l.shaped.whole l.sound,
         l.shaped.room,
       )
 
-  pub links_more : (i : ℕ) → i < n →
+  pub links_more : (i : ℕ) → i < length list →
       links t (take (i + 1) list) ≡ (links t (take i list) ++ (left_of t (get_or list i 0) ∷ [])) ++ (right_of t (get_or list i 0) ∷ [])
   unfolding links
-  links_more i h = rw (add-one, take-suc list i 0 (omega (arith, l.long)), links_append, append_assoc)
+  links_more i h = rw (add-one, take-suc list i 0 h, links_append, append_assoc)
 
-  pub counted_all : (tally : List ℕ) (i : ℕ) → i ≡ n → Counts (links t (take i list)) tally → Tallied t tally
-  counted_all tally i e c = record { long = c.long; tallies = λ k h. c.counts k h ∙ ap (λ (ks : List ℕ). count k (links t ks)) (rw e l.listed) }
+  pub counted_all : (tally : List ℕ) (i : ℕ) → i ≡ length list → Counts (links t (take i list)) tally → Tallied t tally
+  counted_all tally i e c = record {
+    long = c.long;
+    tallies = λ k h. c.counts k h ∙ ap (λ (ks : List ℕ). count k (links t ks)) (ap (λ (j : ℕ). take j list) e ∙ take-length list ∙ l.listed);
+  }

@@ -7,30 +7,27 @@ ghost use Rattle.trees.specs.inner.Steps.{Tallied};
 
 use crate::naming::tick;
 use access::words::{left, right};
-use chains::marked;
+use chains::{ROOM, marked};
 
 // Whether a chained node has a link to a record that is not marked. If none has, the tally counts how often each record is named.
-pub fn strays(table: &[u8], chain: &[u16], nodes: usize, mark: &[u16], tally: &mut [u16]) -> bool
-    requires listed { Listed table.now (chainOf table.now) nodes chain.now }
+// Chain lists the chain of this table: a value of table and list in their place, built for the call, is no plainer.
+#[tactic(auto, using(chains::proofs::Scan::listed_inside))]
+pub fn strays(table: &[u8], chain: &[u16], mark: &[u16; ROOM], tally: &mut [u16; ROOM]) -> bool
+    requires listed { Listed table.now (chainOf table.now) chain.now }
     requires marked { Marked (chainOf table.now) mark.now }
     requires blank { Blank tally.old }
     ensures value { result ≡ bad_links table.now }
     ensures tallied { result ≡ false → Tallied table.now tally.new }
 {
-    let mut i = 0;
-    while i < nodes {
-        let k = chain[i] as usize;
+    for &node in chain {
+        let k = usize::from(node);
         let l = left(table, k);
         let r = right(table, k);
-        if !marked(mark, l) {
-            return true;
-        }
-        if !marked(mark, r) {
+        if !marked(mark, l) || !marked(mark, r) {
             return true;
         }
         tick(tally, l);
         tick(tally, r);
-        i += 1;
     }
     false
 }

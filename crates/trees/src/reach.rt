@@ -1,13 +1,16 @@
 // The nodes that are reached from the roots, and the sizes of their subtrees.
-ghost use Rattle.std.specs.Prelude.{◌≡◌, true, not, ◌++◌, [], ◌∷◌, ◌+◌, ◌≤◌, ◌<◌, length, take};
+ghost use Rattle.std.specs.Prelude.{◌≡◌, true, not, ◌++◌, [], ◌∷◌, ◌+◌, ◌≤◌, ◌<◌, length, set, take};
 ghost use Rattle.table.specs.Table.{chain as chainOf};
+ghost use Rattle.table.specs.Tree.{size, tree_at};
 ghost use Rattle.table.specs.Trees.{roots as rootsOf};
 ghost use Rattle.table.specs.Refusal.{fault};
-ghost use Rattle.trees.specs.inner.Steps.{Rooted, Queue, Ordered, Filled, present, not_reached};
+ghost use Rattle.trees.specs.inner.Steps.{Rooted, Queue, Ordered, Fillable, Filled, present, not_reached};
 
 use access::words::{left, right};
+use chains::ROOM;
 
-// Puts a link that is not zero at the end of the order.
+// Puts a link that is not zero, which is none (`present`), at the end of the order, a lent list whose length stands beside it (no heap).
+#[tactic(auto, using(crate::proofs::Order::present_none, crate::proofs::Order::present_one))]
 fn push(order: &mut [u16], tail: usize, link: usize) -> usize
     requires link_in_bounds { tail + length (present (link ∷ [])) ≤ length order.old }
     requires link_bound { link < 65536 }
@@ -17,67 +20,62 @@ fn push(order: &mut [u16], tail: usize, link: usize) -> usize
     if link == 0 {
         return tail;
     }
+    // It fits: `u16::try_from`, with an unwrap that cannot fail, is no plainer.
     order[tail] = link as u16;
     tail + 1
 }
 
-// Puts the first n numbers of a list first in the order.
-fn start(list: &[u16], n: usize, order: &mut [u16])
-    requires { (n ≤ length list.now) × (n ≤ length order.old) }
-    ensures { take n order.new ≡ take n list.now }
-{
-    let mut i = 0;
-    while i < n {
-        order[i] = list[i];
-        i += 1;
-    }
-}
-
-// Lists the nodes that are reached, breadth first, the n roots before the others, and counts them.
-fn spread(table: &[u8], roots: &[u16], n: usize, order: &mut [u16]) -> usize
+// Lists the nodes that are reached, breadth first, the roots before the others, and counts them.
+#[tactic(auto, using(crate::proofs::Order::roots_few, crate::proofs::Order::spread_inside))]
+fn spread(table: &[u8], roots: &[u16], order: &mut [u16; ROOM]) -> usize
     requires rooted { Rooted table.now }
-    requires n_in_bounds { (n ≤ length roots.now) × (take n roots.now ≡ rootsOf table.now) }
-    requires order_len { length order.old ≡ 4097 }
+    requires roots_value { roots.now ≡ rootsOf table.now }
     ensures { (result ≤ 4097) × Queue table.now result (take result order.new) }
 {
-    start(roots, n, order);
+    order[..roots.len()].copy_from_slice(roots);
     let mut head = 0;
-    let mut tail = n;
+    let mut tail = roots.len();
+    // The order grows while it is gone through, so no iterator can lend it.
     while head < tail {
-        let k = order[head] as usize;
-        tail = push(order, tail, left(table, k));
-        tail = push(order, tail, right(table, k));
+        let node = usize::from(order[head]);
+        tail = push(order, tail, left(table, node));
+        tail = push(order, tail, right(table, node));
         head += 1;
     }
     tail
 }
 
-// The sizes of the subtrees, from the last node of the order to the first.
-pub fn measure(table: &[u8], order: &[u16], nodes: usize, sizes: &mut [u16])
-    requires table_value { fault table.now ≡ 0 }
-    requires nodes_in_bounds { (nodes ≤ length order.now) × Queue table.now nodes (take nodes order.now) }
-    requires filled { Filled table.now [] sizes.old }
-    ensures { Filled table.now (take nodes order.now) sizes.new }
-{
-    let mut i = nodes;
-    while 0 < i {
-        i -= 1;
-        let k = order[i] as usize;
-        let l = sizes[left(table, k)] as usize;
-        let r = sizes[right(table, k)] as usize;
-        sizes[k] = (1 + l + r) as u16;
-    }
-}
-
-// Whether all the nodes are reached from the n roots; then lists them, breadth first.
-pub fn reaches(table: &[u8], nodes: usize, roots: &[u16], n: usize, order: &mut [u16]) -> bool
+// Whether all the nodes are reached from the roots; then lists them, breadth first. It asks for the number of nodes alone, for which `grow` has their list:
+// lending the list too is no plainer.
+pub fn reaches(table: &[u8], nodes: usize, roots: &[u16], order: &mut [u16; ROOM]) -> bool
     requires rooted { Rooted table.now }
     requires nodes_value { nodes ≡ length (chainOf table.now) }
-    requires n_in_bounds { (n ≤ length roots.now) × (take n roots.now ≡ rootsOf table.now) }
-    requires order_len { length order.old ≡ 4097 }
+    requires roots_value { roots.now ≡ rootsOf table.now }
     ensures value { result ≡ not (not_reached table.now) }
     ensures ordered { result ≡ true → Ordered table.now nodes order.new }
 {
-    let reached = spread(table, roots, n, order);
+    let reached = spread(table, roots, order);
     reached == nodes
+}
+
+// Fills in the size of the subtree at a node, from those of its children.
+fn fill(table: &[u8], node: usize, sizes: &mut [u16; ROOM])
+    requires { Fillable table.now node sizes.old }
+    ensures { sizes.new ≡ set sizes.old node (size (tree_at table.now node)) }
+{
+    let l = sizes[left(table, node)];
+    let r = sizes[right(table, node)];
+    sizes[node] = 1 + l + r;
+}
+
+// The sizes of the subtrees, from the last node of the order to the first.
+pub fn measure(table: &[u8], order: &[u16], sizes: &mut [u16; ROOM])
+    requires table_value { fault table.now ≡ 0 }
+    requires queued { Queue table.now (length order.now) order.now }
+    requires filled { Filled table.now [] sizes.old }
+    ensures { Filled table.now order.now sizes.new }
+{
+    for &node in order.iter().rev() {
+        fill(table, usize::from(node), sizes);
+    }
 }

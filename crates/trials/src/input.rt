@@ -1,126 +1,96 @@
-// What a case brings: its head, the bytes of a table or a name, the numbers of placements, the number of a stroke. A word is read at a time.
-ghost use Rattle.std.specs.Prelude.{◌≡◌, ◌+◌, ◌*◌, ◌<◌, ◌≤◌, length, slice_index};
-
-use line::widened;
+// What a case brings: its head, and the bytes, words and numbers that follow it. What cannot be read is 0.
 use std::io::Read;
 
+// What a case does (main.rt).
+#[derive(Clone, Copy)]
+pub enum Kind {
+    Table,
+    Numbers,
+    Filled,
+    Changed,
+    Draw,
+    Check,
+    Width,
+    Wide,
+    Stroke,
+    Name,
+    Hang,
+    Cut,
+    Hold,
+    Held,
+    Compare,
+}
+
+// A word that stands for no kind.
+#[derive(Clone, Copy)]
+pub struct UnknownKind(pub u16);
+
+impl TryFrom<u16> for Kind {
+    type Error = UnknownKind;
+
+    fn try_from(word: u16) -> Result<Self, UnknownKind> {
+        match word {
+            1 => Ok(Kind::Table),
+            2 => Ok(Kind::Numbers),
+            3 => Ok(Kind::Filled),
+            4 => Ok(Kind::Changed),
+            5 => Ok(Kind::Draw),
+            6 => Ok(Kind::Check),
+            7 => Ok(Kind::Width),
+            8 => Ok(Kind::Wide),
+            9 => Ok(Kind::Stroke),
+            10 => Ok(Kind::Name),
+            11 => Ok(Kind::Hang),
+            12 => Ok(Kind::Cut),
+            13 => Ok(Kind::Hold),
+            14 => Ok(Kind::Held),
+            15 => Ok(Kind::Compare),
+            _ => Err(UnknownKind(word)),
+        }
+    }
+}
+
+// The four words that a case begins with: its kind, and three whose meaning the kind says.
 #[derive(Clone, Copy)]
 pub struct Head {
-    pub kind: u16,
+    pub kind: Kind,
     pub count: u16,
     pub first: u16,
     pub step: u16,
 }
 
-// A word, as the numbers that indices are.
-pub fn size(x: u16) -> usize
-    ensures { result ≤ 65535 }
-{
-    x as usize
+// The next bytes; 0 where they cannot be read, and no error, since the program goes on with 0, and what it does may not change.
+fn next_bytes<const N: usize>(input: &mut impl Read) -> [u8; N] {
+    let mut bytes = [0; N];
+    let _ = input.read_exact(&mut bytes);
+    bytes
 }
 
-fn byte(x: u8) -> usize
-    ensures { (result ≡ x) × (result ≤ 255) }
-{
-    x as usize
+// A word has 16 bits, low byte first. This and the next are a line each over `next_bytes`; a trait of both would be longer.
+pub fn next_word(input: &mut impl Read) -> u16 {
+    u16::from_le_bytes(next_bytes(input))
 }
 
-// The word that begins at a byte, low byte first.
-pub fn word(bytes: &[u8], at: usize) -> u16
-    requires { at + 1 < length bytes.now }
-    ensures { result ≡ slice_index bytes.now at + 256 * slice_index bytes.now (at + 1) }
-{
-    (byte(bytes[at]) + 256 * byte(bytes[at + 1])) as u16
-}
-
-// Reads until the bytes are full, the input ends or a read fails; what is not read stays as it was.
-fn read_full(input: &mut impl Read, bytes: &mut [u8]) {
-    let _ = input.read_exact(bytes);
-}
-
-// The next word; 0 where the input has ended.
-fn next_word(input: &mut impl Read) -> u16 {
-    let mut bytes = [0u8; 2];
-    read_full(input, &mut bytes);
-    word(&bytes, 0)
-}
-
-// The next head; kind 0 where the input has ended.
-pub fn next_head(input: &mut impl Read) -> Head {
-    Head {
-        kind: next_word(input),
-        count: next_word(input),
-        first: next_word(input),
-        step: next_word(input),
-    }
-}
-
-// The next number of 64 bits, in four words.
+// A number has 64 bits, low byte first.
 pub fn next_number(input: &mut impl Read) -> u64 {
-    widened(next_word(input))
-        + 0x1_0000 * widened(next_word(input))
-        + 0x1_0000_0000 * widened(next_word(input))
-        + 0x1_0000_0000_0000 * widened(next_word(input))
+    u64::from_le_bytes(next_bytes(input))
 }
 
-// The next bytes: how many they are.
-pub fn next_bytes(input: &mut impl Read, bytes: &mut [u8], count: usize) -> usize
-    requires { count ≤ length bytes.old }
-    ensures { result ≡ count }
-{
-    read_full(input, &mut bytes[..count]);
-    count
+// The head of the next case. Where the input has ended, the kind is 0, which is no kind.
+pub fn next_head(input: &mut impl Read) -> Result<Head, UnknownKind> {
+    let kind = next_word(input);
+    let count = next_word(input);
+    let first = next_word(input);
+    let step = next_word(input);
+    Ok(Head {
+        kind: Kind::try_from(kind)?,
+        count,
+        first,
+        step,
+    })
 }
 
-fn read_words(input: &mut impl Read, places: &mut [u16], count: usize)
-    requires { count ≤ length places.old }
-{
-    let mut i = 0;
-    while i < count {
-        places[i] = next_word(input);
-        i += 1;
-    }
-}
-
-fn read_pairs(input: &mut impl Read, places: &mut [u16], count: usize)
-    requires { 65536 ≤ length places.old }
-{
-    let mut i = 0;
-    while i < count {
-        let at = size(next_word(input));
-        places[at] = next_word(input);
-        i += 1;
-    }
-}
-
-fn fill(places: &mut [u16], count: usize, first: u16, step: usize)
-    requires count_in_bounds { count ≤ length places.old }
-    requires step_bound { step ≤ 65535 }
-{
-    let mut number = size(first);
-    let mut i = 0;
-    while i < count {
-        places[i] = number as u16;
-        number = (number + step) % 65536;
-        i += 1;
-    }
-}
-
-// A case that gives the placements: how many there are.
-pub fn give(input: &mut impl Read, places: &mut [u16], before: usize, h: Head) -> usize
-    requires in_bounds { 65536 ≤ length places.old }
-    requires before_bound { before ≤ 65536 }
-    ensures { result ≤ 65536 }
-{
-    let count = size(h.count);
-    if h.kind == 2 {
-        read_words(input, places, count);
-        return count;
-    }
-    if h.kind == 3 {
-        fill(places, count, h.first, size(h.step));
-        return count;
-    }
-    read_pairs(input, places, count);
-    before
+// A word mod 256.
+pub fn low_byte(word: u16) -> u8 {
+    word.to_le_bytes()[0]
 }

@@ -26,294 +26,71 @@
 // The cases end with the input, or with a head of any other kind.
 #![tactic(auto)]
 
+mod bench;
 mod input;
 mod text;
 
-ghost use Rattle.std.specs.Prelude.{◌≡◌, ◌≤◌, length};
-
-use crate::input::{Head, give, next_bytes, next_head, next_number, size};
-use crate::text::{put, put_changed, put_field, put_line, put_places, put_point};
-use drawing::Plan;
-use hanging::Hung;
-use line::{end, start, widened};
-use pen::strokes::Stroke;
-use records::writing::copy;
+use crate::bench::Bench;
+use crate::input::{Head, Kind, low_byte, next_head, next_number};
+use line::{end, start};
 use segment::meeting::{Meeting, compare};
 use std::io::Read;
-use wide::Wide;
 
-// How many bytes the table has, how many placements there are, and whether cases are left.
-#[derive(Clone, Copy)]
-pub struct State {
-    pub bytes: usize,
-    pub places: usize,
-    pub more: bool,
+fn put_width(rt: &impl Print, h: Head) {
+    let n = u64::from(h.count) + 65536 * u64::from(h.first) + 4294967296 * u64::from(h.step);
+    let _ = println!(rt; "width {}", width::allowed_width(n));
 }
 
-fn put_plan(rt: &impl Print, plan: Plan) {
-    put_field(rt, widened(plan.nodes));
-    put_field(rt, widened(plan.width));
-    put_field(rt, widened(plan.height));
-    put(rt, b"\n");
+// A name, as it stands, and the end of the line.
+fn put_name(rt: &impl Print, input: &mut impl Read, count: u16) {
+    let mut name = [0; 256];
+    let name = &mut name[..usize::from(low_byte(count))];
+    let _ = input.read_exact(name);
+    let _ = rt.write_all(name);
+    let _ = println!(rt);
 }
 
-fn run_draw(rt: &impl Print, table: &[u8], places: &mut [u16]) {
-    let drawn = drawing::draw(table, places);
-    put(rt, b"draw");
-    put_field(rt, widened(drawn.refusal));
-    put_plan(rt, drawn.plan);
-    put_places(rt, places);
-}
-
-fn put_wide(rt: &impl Print, answer: Wide) {
-    put(rt, b"wide");
-    match answer {
-        Wide::Planned(plan) => put_plan(rt, plan),
-        Wide::Refused(refusal) => put_line(rt, b" refused", widened(refusal)),
-    }
-}
-
-fn run_wide(rt: &impl Print, table: &[u8], places: &mut [u16]) {
-    put_wide(rt, wide::draw_wide(table, places));
-    put_places(rt, places);
-}
-
-fn run_check(rt: &impl Print, table: &[u8], places: &[u16]) {
-    put_line(rt, b"check", widened(verdict::check(table, places)));
-}
-
-fn run_width(rt: &impl Print, h: Head) {
-    let n = widened(h.count) + 65536 * widened(h.first) + 4294967296 * widened(h.step);
-    put_line(rt, b"width", width::allowed_width(n));
-}
-
-fn put_stroke(rt: &impl Print, answer: Stroke) {
-    match answer {
-        Stroke::Lift(point) => put_point(rt, b"stroke lift", point),
-        Stroke::Draw(point) => put_point(rt, b"stroke draw", point),
-        Stroke::Done => put(rt, b"stroke done\n"),
-        Stroke::Refused(refusal) => put_line(rt, b"stroke refused", widened(refusal)),
-    }
-}
-
-fn run_stroke(rt: &impl Print, input: &mut impl Read, table: &[u8], places: &[u16], pitch: u8) {
-    put_stroke(rt, pen::stroke(table, places, pitch, next_number(input)));
-}
-
-// A name, as it stands.
-fn run_name(rt: &impl Print, input: &mut impl Read, count: usize)
-    requires { count ≤ 255 }
-{
-    let mut name = [0u8; 256];
-    let n = next_bytes(input, &mut name, count);
-    put(rt, &name[..n]);
-    put(rt, b"\n");
-}
-
-fn put_meeting(rt: &impl Print, answer: Meeting) {
-    match answer {
-        Meeting::Separate => put(rt, b"compare separate\n"),
-        Meeting::SharedEnd => put(rt, b"compare end\n"),
-        Meeting::Crossing => put(rt, b"compare crossing\n"),
-        Meeting::Touching => put(rt, b"compare touching\n"),
-    }
-}
-
-// A line is read as a number of 64 bits, of four words.
-fn run_compare(rt: &impl Print, input: &mut impl Read) {
-    let a = next_number(input);
-    let b = next_number(input);
-    put_meeting(rt, compare(start(a), end(a), start(b), end(b)));
-}
-
-// What hanging or its first half says: the record, or the refusal.
-fn put_hung(rt: &impl Print, answer: Hung) {
-    match answer {
-        Hung::Leaf(record) => put_line(rt, b"", widened(record)),
-        Hung::Refused(refusal) => put_line(rt, b" refused", widened(refusal)),
-    }
-}
-
-fn run_hold(rt: &impl Print, table: &[u8], h: Head) {
-    put(rt, b"hold");
-    put_hung(rt, hanging::hold(table, h.count, (h.first % 256) as u8));
-}
-
-fn run_hang(rt: &impl Print, table: &mut [u8], h: Head) {
-    put(rt, b"hang");
-    put_hung(
-        rt,
-        hanging::hang(table, h.count, (h.first % 256) as u8, h.step),
-    );
-}
-
-fn run_held(rt: &impl Print, input: &mut impl Read, table: &mut [u8], h: Head) {
-    let held = (next_number(input) % 65536) as u16;
-    let refusal = hanging::hang_held(table, h.count, (h.first % 256) as u8, h.step, held);
-    put_line(rt, b"held", widened(refusal));
-}
-
-fn run_cut(rt: &impl Print, table: &mut [u8], node: u16) {
-    put_line(rt, b"cut", widened(hanging::cut(table, node)));
-}
-
-// A call that writes to the table.
-fn write(rt: &impl Print, input: &mut impl Read, table: &mut [u8], h: Head) {
-    if h.kind == 11 {
-        run_hang(rt, table, h);
-        return;
-    }
-    if h.kind == 12 {
-        run_cut(rt, table, h.count);
-        return;
-    }
-    run_held(rt, input, table, h);
-}
-
-// A case that writes to the table, the first bytes of a buffer: the answer, and the records that are changed.
-fn change(rt: &impl Print, input: &mut impl Read, table: &mut [u8], bytes: usize, h: Head)
-    requires value { 65536 ≡ length table.old }
-    requires bytes_bound { bytes ≤ 65536 }
-{
-    let mut before = [0u8; 65536];
-    copy(table, &mut before);
-    write(rt, input, &mut table[..bytes], h);
-    put_changed(rt, &before, table, bytes);
-}
-
-// A case that needs no placements.
-fn ask_table(rt: &impl Print, input: &mut impl Read, table: &[u8], h: Head) {
-    if h.kind == 7 {
-        run_width(rt, h);
-        return;
-    }
-    if h.kind == 10 {
-        run_name(rt, input, size(h.count) % 256);
-        return;
-    }
-    if h.kind == 13 {
-        run_hold(rt, table, h);
-        return;
-    }
-    run_compare(rt, input);
-}
-
-// A case that leaves the table as it is.
-fn ask(rt: &impl Print, input: &mut impl Read, table: &[u8], places: &mut [u16], h: Head) {
-    if h.kind == 5 {
-        run_draw(rt, table, places);
-        return;
-    }
-    if h.kind == 6 {
-        run_check(rt, table, places);
-        return;
-    }
-    if h.kind == 8 {
-        run_wide(rt, table, places);
-        return;
-    }
-    if h.kind == 9 {
-        run_stroke(rt, input, table, places, (h.count % 256) as u8);
-        return;
-    }
-    ask_table(rt, input, table, h);
-}
-
-// A case that gives the table or the placements.
-fn take(input: &mut impl Read, table: &mut [u8], places: &mut [u16], s: State, h: Head) -> State
-    requires value { 65536 ≡ length table.old }
-    requires in_bounds { 65536 ≤ length places.old }
-    requires bytes_bound { s.bytes ≤ 65536 }
-    requires places_bound { s.places ≤ 65536 }
-    ensures bytes_bound_2 { result.bytes ≤ 65536 }
-    ensures places_bound_2 { result.places ≤ 65536 }
-{
-    if h.kind == 1 {
-        return State {
-            bytes: next_bytes(input, table, size(h.count)),
-            places: s.places,
-            more: true,
-        };
-    }
-    State {
-        bytes: s.bytes,
-        places: give(input, places, s.places, h),
-        more: true,
-    }
-}
-
-// A case that prints.
-fn answer(
-    rt: &impl Print,
-    input: &mut impl Read,
-    table: &mut [u8],
-    places: &mut [u16],
-    s: State,
-    h: Head,
-)
-    requires value { 65536 ≡ length table.old }
-    requires in_bounds { 65536 ≤ length places.old }
-    requires bytes_bound { s.bytes ≤ 65536 }
-    requires places_bound { s.places ≤ 65536 }
-{
-    let n = s.bytes;
-    let m = s.places;
-    if h.kind == 11 || h.kind == 12 || h.kind == 14 {
-        change(rt, input, table, n, h);
-        return;
-    }
-    ask(rt, input, &table[..n], &mut places[..m], h);
-}
-
-// The next case.
-fn step(
-    rt: &impl Print,
-    input: &mut impl Read,
-    table: &mut [u8],
-    places: &mut [u16],
-    s: State,
-) -> State
-    requires value { 65536 ≡ length table.old }
-    requires in_bounds { 65536 ≤ length places.old }
-    requires bytes_bound { s.bytes ≤ 65536 }
-    requires places_bound { s.places ≤ 65536 }
-    ensures bytes_bound_2 { result.bytes ≤ 65536 }
-    ensures places_bound_2 { result.places ≤ 65536 }
-{
-    let h = next_head(input);
-    if h.kind == 0 || 15 < h.kind {
-        return State {
-            bytes: s.bytes,
-            places: s.places,
-            more: false,
-        };
-    }
-    if h.kind < 5 {
-        return take(input, table, places, s, h);
-    }
-    answer(rt, input, table, places, s, h);
-    s
-}
-
-// A proved loop has to end, and nothing says that the input does: it counts its turns down from a number that no run uses up.
-fn run(rt: &impl Print, input: &mut impl Read, table: &mut [u8], places: &mut [u16])
-    requires value { 65536 ≡ length table.old }
-    requires in_bounds { 65536 ≤ length places.old }
-{
-    let mut s = State {
-        bytes: 0,
-        places: 0,
-        more: true,
+// A line is a number of 64 bits.
+fn put_meeting(rt: &impl Print, a: u64, b: u64) {
+    let _ = match compare(start(a), end(a), start(b), end(b)) {
+        Meeting::Separate => println!(rt; "compare separate"),
+        Meeting::SharedEnd => println!(rt; "compare end"),
+        Meeting::Crossing => println!(rt; "compare crossing"),
+        Meeting::Touching => println!(rt; "compare touching"),
     };
-    let mut turns = u64::MAX;
-    while 0 < turns && s.more {
-        s = step(rt, input, table, places, s);
-        turns -= 1;
+}
+
+fn run_case(rt: &impl Print, input: &mut impl Read, bench: &mut Bench, head: Head) {
+    match head.kind {
+        Kind::Table => bench.take_table(input, head.count),
+        Kind::Numbers => bench.take_numbers(input, head.count),
+        Kind::Filled => bench.fill(head.count, head.first, head.step),
+        Kind::Changed => bench.take_pairs(input, head.count),
+        Kind::Draw => bench.draw(rt),
+        Kind::Check => bench.check(rt),
+        Kind::Width => put_width(rt, head),
+        Kind::Wide => bench.draw_wide(rt),
+        Kind::Stroke => bench.stroke(rt, head.count, next_number(input)),
+        Kind::Name => put_name(rt, input, head.count),
+        Kind::Hang => bench.hang(rt, head),
+        Kind::Cut => bench.cut(rt, head.count),
+        Kind::Hold => bench.hold(rt, head),
+        Kind::Held => bench.hang_held(rt, head, next_number(input)),
+        Kind::Compare => put_meeting(rt, next_number(input), next_number(input)),
+    }
+}
+
+// A proved loop has to end, and nothing says that the input does: the number of its turns is one that no run uses up.
+fn run(rt: &impl Print, input: &mut impl Read, bench: &mut Bench) {
+    for _ in 0..u64::MAX {
+        let Ok(head) = next_head(input) else {
+            return;
+        };
+        run_case(rt, input, bench, head);
     }
 }
 
 fn main(rt: HostRuntime) {
-    let mut table = [0u8; 65536];
-    let mut places = [0u16; 65536];
-    run(&rt, &mut rt.reader(), &mut table, &mut places);
+    let mut bench = Bench::new();
+    run(&rt, &mut rt.reader(), &mut bench);
 }

@@ -1,28 +1,9 @@
 // Text on standard output, piece by piece. What cannot be written is let go, and the next piece is tried.
-ghost use Rattle.std.specs.Prelude.{◌+◌, ◌<◌, ◌≤◌, length};
-
-use crate::input::word;
-use line::widened;
+use drawing::Plan;
 use pen::points::PenPoint;
+use std::fmt;
 
-pub fn put(rt: &impl Print, bytes: &[u8]) {
-    let _ = rt.write_all(bytes);
-}
-
-// A space and a number.
-pub fn put_field(rt: &impl Print, n: u64) {
-    put(rt, b" ");
-    let _ = rt.print(n);
-}
-
-// A word, a number and the end of the line.
-pub fn put_line(rt: &impl Print, name: &[u8], n: u64) {
-    put(rt, name);
-    put_field(rt, n);
-    put(rt, b"\n");
-}
-
-// The bit pattern of a float; u64::MAX, the pattern of a NaN, where it is one.
+// The bit pattern of a float; u64::MAX, the pattern of a NaN, where it is one, since std's `to_bits` asks that it is none.
 fn bits(x: f64) -> u64 {
     if x == x {
         return f64::to_bits(x);
@@ -30,99 +11,73 @@ fn bits(x: f64) -> u64 {
     u64::MAX
 }
 
-// A word, the bits of a pen point and the end of the line.
-pub fn put_point(rt: &impl Print, name: &[u8], point: PenPoint) {
-    put(rt, name);
-    put_field(rt, bits(point.x));
-    put_field(rt, bits(point.y));
-    put(rt, b"\n");
-}
+// A pen point, which is printed as the bits of its two floats.
+#[derive(Clone, Copy)]
+pub struct PointBits(pub PenPoint);
 
-fn put_numbers(rt: &impl Print, numbers: &[u16]) {
-    let mut i = 0;
-    while i < numbers.len() {
-        put_field(rt, widened(numbers[i]));
-        i += 1;
+impl fmt::Display for PointBits {
+    fn fmt<W: fmt::Write>(&self, f: &mut fmt::Formatter<W>) -> fmt::Result {
+        let point = self.0;
+        write!(f, "{} {}", bits(point.x), bits(point.y))
     }
 }
 
-fn mixed(sum: u64, x: u16) -> u64
-    requires { sum < 4294967291 }
-    ensures { result < 4294967291 }
-{
-    (65599 * sum + widened(x) + 1) % 4294967291
+// A plan, which is printed as its three numbers.
+#[derive(Clone, Copy)]
+pub struct Sizes(pub Plan);
+
+impl fmt::Display for Sizes {
+    fn fmt<W: fmt::Write>(&self, f: &mut fmt::Formatter<W>) -> fmt::Result {
+        let plan = self.0;
+        write!(f, "{} {} {}", plan.nodes, plan.width, plan.height)
+    }
 }
 
-fn sum_of(numbers: &[u16]) -> u64 {
-    let mut sum = 0;
-    let mut i = 0;
-    while i < numbers.len() {
-        sum = mixed(sum, numbers[i]);
-        i += 1;
+// A sum with a number more (main.rt, 5). The remainder is below 2^32, so a `try_from` could not fail and would be no plainer than the cast.
+fn mixed(sum: u32, number: u16) -> u32 {
+    ((65599 * u64::from(sum) + u64::from(number) + 1) % 4294967291) as u32
+}
+
+// The sum of many placements (main.rt, 5).
+fn sum_of(numbers: &[u16]) -> u32 {
+    numbers.iter().fold(0, |sum, number| mixed(sum, *number))
+}
+
+// Each word behind a space, and the end of the line.
+fn put_words(rt: &impl Print, words: &[u16]) {
+    for word in words {
+        let _ = print!(rt; " {word}");
     }
-    sum
+    let _ = println!(rt);
 }
 
 // The placements: all of them, or of many a sum.
-pub fn put_places(rt: &impl Print, numbers: &[u16]) {
-    if 600 < numbers.len() {
-        put_line(rt, b"sum", sum_of(numbers));
+pub fn put_placements(rt: &impl Print, placements: &[u16]) {
+    if 600 < placements.len() {
+        let _ = println!(rt; "sum {}", sum_of(placements));
         return;
     }
-    put(rt, b"places");
-    put_numbers(rt, numbers);
-    put(rt, b"\n");
+    let _ = print!(rt; "places");
+    put_words(rt, placements);
 }
 
-// Whether a record differs.
-fn differs(before: &[u8], table: &[u8], at: usize) -> bool
-    requires at_in_bounds { at + 7 < length before.now }
-    requires at_in_bounds_2 { at + 7 < length table.now }
-{
-    let mut i = 0;
-    while i < 8 {
-        if before[at + i] != table[at + i] {
-            return true;
+// The records that differ, by their numbers and their words. Eight names, since a mapped list of four words would need a place to stand in (no heap).
+pub fn put_changed(rt: &impl Print, before: &[u8], after: &[u8]) {
+    let (before, _) = before.as_chunks::<8>();
+    let (after, _) = after.as_chunks::<8>();
+    for (record, (old, new)) in before.iter().zip(after).enumerate() {
+        if old != new {
+            let [a, b, c, d, e, f, g, h] = *new;
+            let _ = print!(rt; "record {record}");
+            put_words(
+                rt,
+                &[
+                    u16::from_le_bytes([a, b]),
+                    u16::from_le_bytes([c, d]),
+                    u16::from_le_bytes([e, f]),
+                    u16::from_le_bytes([g, h]),
+                ],
+            );
         }
-        i += 1;
-    }
-    false
-}
-
-// The four words of a record.
-fn put_words(rt: &impl Print, table: &[u8], at: usize)
-    requires { at + 7 < length table.now }
-{
-    let mut i = 0;
-    while i < 4 {
-        put_field(rt, widened(word(table, at + 2 * i)));
-        i += 1;
-    }
-}
-
-// A record, by its number and its words, if it differs.
-fn put_if_changed(rt: &impl Print, before: &[u8], table: &[u8], at: usize)
-    requires at_in_bounds { at + 7 < length before.now }
-    requires at_in_bounds_2 { at + 7 < length table.now }
-{
-    if differs(before, table, at) {
-        put(rt, b"record");
-        put_field(rt, (at / 8) as u64);
-        put_words(rt, table, at);
-        put(rt, b"\n");
-    }
-}
-
-// The records that differ, of those that begin within so many bytes; both buffers go on behind them.
-pub fn put_changed(rt: &impl Print, before: &[u8], table: &[u8], bytes: usize)
-    requires in_bounds { 65536 ≤ length before.now }
-    requires in_bounds_2 { 65536 ≤ length table.now }
-    requires bytes_bound { bytes ≤ 65536 }
-{
-    let records = (bytes + 7) / 8;
-    let mut k = 0;
-    while k < records {
-        put_if_changed(rt, before, table, 8 * k);
-        k += 1;
     }
 }

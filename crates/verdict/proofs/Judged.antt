@@ -2,11 +2,13 @@
 -- of rearrangements.
 use mathlib.Core.Path.{◌≡◌, refl, sym}
 use mathlib.Core.Logic.Iff
-use mathlib.Core.Logic.{◌↔◌, ◌≢◌, inl, inr, ⊎_elim}
+use mathlib.Core.Bool.{Bool, true, false}
+use lib.Dec.{T}
+use mathlib.Core.Logic.{◌↔◌, inl, inr, ⊎_elim}
 use mathlib.Core.List.{List, [], ◌∷◌}
 use Prim.Native.Nat.{ℕ, ◌≤◌}
 use native.Mathlib.Omega.{arith}
-use lib.ListN.{get_or}
+use lib.ListN.{length, get_or}
 use Rattle.segment.specs.declared.Point.{Point}
 use Rattle.segment.specs.declared.meeting.Meeting.{Meeting}
 use Rattle.segment.specs.declared.meeting.Meeting.TheVariants.{Separate, SharedEnd, Crossing, Touching}
@@ -23,7 +25,13 @@ use Rattle.sweep.proofs.Grades.{clash_graded}
 use Rattle.records.specs.inner.Reading.{Nodes}
 use Rattle.verdict.specs.Conditions.{SamePoint, ChildAbove, OutOfOrder}
 use Rattle.verdict.specs.Verdict.{numbered, FirstOf, conditions}
+use Rattle.std.specs.Prelude.{Option}
+use Rattle.std.specs.Bool.{then_some}
+use Rattle.verdict.specs.declared.Fault.{Fault}
+use Rattle.verdict.specs.declared.Fault.TheVariants.{OutOfOrder as Disorder}
+use Rattle.verdict.specs.Fault.{number_of, fault_number}
 use Rattle.verdict.specs.inner.Steps.{LinesOf, Rises, Two, line_conditions, worst_verdict}
+use Rattle.verdict.proofs.Faults.{some_number}
 use Rattle.verdict.proofs.Places.{same_ends, rising, crossing, clashing}
 
 -- ---- the conditions of lines
@@ -87,26 +95,41 @@ worst_first m s r w e = inr (s, inr (r, rw e (by_worst m w)))
 
 -- ---- the first of the lines is the first of the table
 
-module _ {t p nodes ls : List ℕ} {n : ℕ} (l : Nodes t n nodes) (x : LinesOf t p n nodes ls) where
-  apart : (Same n ls → ⊥) → SamePoint t p → ⊥
+module _ {t p nodes ls : List ℕ} (l : Nodes t nodes) (x : LinesOf t p nodes ls) where
+  apart : (Same (length nodes) ls → ⊥) → SamePoint t p → ⊥
   apart s y = s ((same_ends p l x).1 y)
 
-  none_above : (Rising n ls → ⊥) → ChildAbove t p → ⊥
+  none_above : (Rising (length nodes) ls → ⊥) → ChildAbove t p → ⊥
   none_above r y = r ((rising p l x).1 y)
 
-  pub some_fault : {v : ℕ} → v ≢ 0 → FirstOf (line_conditions n ls) v → FirstOf (conditions t p) v
-  some_fault z (inl (s, e)) = inl ((same_ends p l x).0 s, e)
-  some_fault z (inr (s, inl (r, e))) = inr (apart s, inl ((rising p l x).0 r, e))
-  some_fault z (inr (s, inr (r, inl (c, e)))) = inr (apart s, inr (none_above r, inl ((crossing p l x).0 c, e)))
-  some_fault z (inr (s, inr (r, inr (c, inl (d, e))))) =
-      inr (apart s, inr (none_above r, inr (λ y. c ((crossing p l x).1 y), inl ((clashing p l x (apart s)).0 d, e))))
-  some_fault z (inr (s, inr (r, inr (c, inr (d, e))))) = absurd (z e)
+  pub some_fault : (f : Fault) → FirstOf (line_conditions (length ls) ls) (number_of f) → FirstOf (conditions t p) (number_of f)
+  some_fault f a = go (rw x.long at a)
+    where
+      go : FirstOf (line_conditions (length nodes) ls) (number_of f) → FirstOf (conditions t p) (number_of f)
+      go (inl (s, e)) = inl ((same_ends p l x).0 s, e)
+      go (inr (s, inl (r, e))) = inr (apart s, inl ((rising p l x).0 r, e))
+      go (inr (s, inr (r, inl (c, e)))) = inr (apart s, inr (none_above r, inl ((crossing p l x).0 c, e)))
+      go (inr (s, inr (r, inr (c, inl (d, e))))) =
+          inr (apart s, inr (none_above r, inr (λ y. c ((crossing p l x).1 y), inl ((clashing p l x (apart s)).0 d, e))))
+      go (inr (s, inr (r, inr (c, inr (d, e))))) = absurd (some_number f e)
 
-  -- Without a fault, 24 is what is left.
-  pub no_fault : {v w : ℕ} → v ≡ 0 → FirstOf (line_conditions n ls) v → FirstOf (numbered 24 (OutOfOrder t p) ∷ []) w → FirstOf (conditions t p) w
-  no_fault z (inl (s, e)) o = absurd (omega arith)
-  no_fault z (inr (s, inl (r, e))) o = absurd (omega arith)
-  no_fault z (inr (s, inr (r, inl (c, e)))) o = absurd (omega arith)
-  no_fault z (inr (s, inr (r, inr (c, inl (d, e))))) o = absurd (omega arith)
-  no_fault z (inr (s, inr (r, inr (c, inr (d, e))))) o =
-      inr (apart s, inr (none_above r, inr (λ y. c ((crossing p l x).1 y), inr (λ y. d ((clashing p l x (apart s)).1 y), o))))
+  -- Without a fault of the lines, 24 is what is left.
+  pub no_fault : {w : ℕ} → FirstOf (line_conditions (length ls) ls) 0 → FirstOf (numbered 24 (OutOfOrder t p) ∷ []) w → FirstOf (conditions t p) w
+  no_fault {w} a o = go (rw x.long at a)
+    where
+      go : FirstOf (line_conditions (length nodes) ls) 0 → FirstOf (conditions t p) w
+      go (inl (s, e)) = absurd (omega arith)
+      go (inr (s, inl (r, e))) = absurd (omega arith)
+      go (inr (s, inr (r, inl (c, e)))) = absurd (omega arith)
+      go (inr (s, inr (r, inr (c, inl (d, e))))) = absurd (omega arith)
+      go (inr (s, inr (r, inr (c, inr (d, e))))) =
+          inr (apart s, inr (none_above r, inr (λ y. c ((crossing p l x).1 y), inr (λ y. d ((clashing p l x (apart s)).1 y), o))))
+
+-- 24 or none, by the answer of the search.
+pub order_fault : {t p : List ℕ} (b : Bool) {r : Option Fault} → T b ↔ OutOfOrder t p → r ≡ then_some b Disorder →
+    FirstOf (numbered 24 (OutOfOrder t p) ∷ []) (fault_number r)
+order_fault {t} {p} b h e = rw e (go b h)
+  where
+    go : (b : Bool) → T b ↔ OutOfOrder t p → FirstOf (numbered 24 (OutOfOrder t p) ∷ []) (fault_number (then_some b Disorder))
+    go true h = inl (h.0 tt, refl)
+    go false h = inr (h.1, refl)

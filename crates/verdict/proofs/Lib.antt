@@ -6,4 +6,5 @@ pub mod Decide
 pub mod Parent
 pub mod Turning
 pub mod Places
+pub mod Faults
 pub mod Judged

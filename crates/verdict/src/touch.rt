@@ -4,8 +4,10 @@
 ghost use Rattle.std.specs.Prelude.{◌≡◌, ◌↔◌, ◌≤◌, T, length, get_or};
 ghost use Rattle.sort.specs.inner.Order.{Below};
 ghost use Rattle.verdict.specs.Verdict.{FirstOf};
+ghost use Rattle.verdict.specs.Fault.{fault_number};
 ghost use Rattle.verdict.specs.inner.Steps.{Rises, line_conditions, worst_verdict};
 
+use crate::Fault;
 use line::{end, start};
 use segment::meeting::Meeting;
 use sort::sort;
@@ -15,56 +17,38 @@ use sweep::{same_end, worst_meeting};
 fn rises_at(k: u64) -> bool
     ensures { T result ↔ Rises k }
 {
-    let p = start(k);
-    let q = end(k);
-    q.row < p.row
+    end(k).row < start(k).row
 }
 
 // Does one of the lines go up?
 fn rises(lines: &[u64]) -> bool
     ensures { T result ↔ Below (length lines.now) (λ i. Rises (get_or lines.now i 0)) }
 {
-    let mut i = 0;
-    while i < lines.len() {
-        if rises_at(lines[i]) {
-            return true;
-        }
-        i += 1;
-    }
-    false
+    lines.iter().any(|&line| rises_at(line))
 }
 
-// What the worst meeting of two lines gives: 23, 25 or 0.
-fn worst_verdict(worst: Meeting) -> u16
-    ensures { result ≡ worst_verdict worst }
+// 23 or 25, by the worst meeting of two lines.
+fn fault_of(worst: Meeting) -> Option<Fault>
+    ensures { fault_number result ≡ worst_verdict worst }
 {
     match worst {
-        Meeting::Separate => 0,
-        Meeting::SharedEnd => 0,
-        Meeting::Crossing => 23,
-        Meeting::Touching => 25,
+        Meeting::Separate | Meeting::SharedEnd => None,
+        Meeting::Crossing => Some(Fault::LinesCross),
+        Meeting::Touching => Some(Fault::Clashing),
     }
 }
 
-// 21, 22, 23 or 25: the first that holds, or 0.
-fn judge_lines(lines: &mut [u64], scratch: &mut [u64], abreast: &mut [u16]) -> u16
+// 21, 22, 23 or 25: the first that holds. The lists to work in are no struct, since `sort` takes one of them and `worst_meeting` both.
+pub fn judge_lines(lines: &mut [u64], scratch: &mut [u64], abreast: &mut [u16]) -> Option<Fault>
     requires { (length lines.old ≤ 4097) × (length lines.old ≤ length scratch.old) × (length lines.old ≤ length abreast.old) }
-    ensures { FirstOf (line_conditions (length lines.old) lines.old) result }
+    ensures { FirstOf (line_conditions (length lines.old) lines.old) (fault_number result) }
 {
     sort(lines, scratch, 32);
     if same_end(lines) {
-        return 21;
+        return Some(Fault::SamePoint);
     }
     if rises(lines) {
-        return 22;
+        return Some(Fault::ChildAbove);
     }
-    worst_verdict(worst_meeting(lines, scratch, abreast))
-}
-
-// The same, of the first n lines.
-pub fn judge_first(lines: &mut [u64], scratch: &mut [u64], abreast: &mut [u16], n: usize) -> u16
-    requires { (n ≤ 4097) × (n ≤ length lines.old) × (n ≤ length scratch.old) × (n ≤ length abreast.old) }
-    ensures { FirstOf (line_conditions n lines.old) result }
-{
-    judge_lines(&mut lines[..n], scratch, abreast)
+    fault_of(worst_meeting(lines, scratch, abreast))
 }

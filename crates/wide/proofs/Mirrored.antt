@@ -6,13 +6,13 @@ use Prim.Native.Nat.{ℕ, ◌+◌, ◌*◌, ◌≤◌, ◌<◌}
 use native.Mathlib.Omega.{arith}
 use lib.Dec.{T}
 use lib.ListN.{length, get_or, take, drop}
-use lib.Seq.{take_at, length_front}
+use lib.Seq.{take_at}
 use Rattle.table.specs.Lists.{member}
 use Rattle.table.specs.Table.{records, root_of, chain, Chained}
 use Rattle.table.specs.Tree.{Tree, size, tree_at}
 use Rattle.table.specs.Trees.{trees}
 use Rattle.table.specs.Refusal.{fault}
-use Rattle.table.proofs.Accepted.{records_bounds, chain_within, chain_length}
+use Rattle.table.proofs.Accepted.{chain_within}
 use Rattle.layout.specs.Layout.{mirror}
 use Rattle.layout.specs.Trees.{draw_trees, width_of, height_of}
 use Rattle.layout.proofs.Rows.{size_mirror}
@@ -29,9 +29,6 @@ use Rattle.wide.proofs.Transposed.{width_turned, height_turned, turned_stored}
 module _ (t : List ℕ) (ok : fault t ≡ 0) where
   mirrored_fault : fault (exchanged t) ≡ 0
   mirrored_fault = exchanged_fault t ∙ ok
-
-  mirrored_room : (m : ℕ) → 2 * records t ≤ m → 2 * records (exchanged t) ≤ m
-  mirrored_room m h = rw (exchanged_length t) h
 
   -- A subtree and its mirror image have one size.
   mirrored_sized : (sizes : List ℕ) → Sized t sizes → Sized (exchanged t) sizes
@@ -52,7 +49,7 @@ module _ (t : List ℕ) (ok : fault t ≡ 0) where
   pub wide_turned : (p : List ℕ) → 2 * records t ≤ length p →
       exchanged_placements t (store_all (draw_trees (trees (exchanged t))) p) ≡ store_all (draw_wide (trees t)) p
   unfolding exchanged_placements draw_wide
-  wide_turned p long = rw (sym (exchanged_chain t)) (turned_stored (exchanged t) p mirrored_fault (mirrored_room (length p) long)) ∙
+  wide_turned p long = rw (sym (exchanged_chain t)) (turned_stored (exchanged t) p mirrored_fault (rw (exchanged_length t) long)) ∙
       ap (λ (ts : List Tree). store_all (map transposed (draw_trees ts)) p) (exchanged_trees t ok)
 
   -- The extents, exchanged.
@@ -80,14 +77,7 @@ mirrored_copy t b c ks same listed e = take_at c (drop (length t) b) (length t) 
     whole : c ≡ exchanged t
     whole = rw (same, listed) at e
 
--- There is room for it where it was.
-pub front_room : (b c : List ℕ) (n : ℕ) → length c ≡ length (take n b) → n ≤ length b → n ≤ length (c ++ drop n b)
-front_room b c n e h = omega (arith, length_front b c n e, h)
-
--- The listed records: few enough for the list, within the table, and with room among the placements.
-pub listed_few : (t : List ℕ) (n long : ℕ) → fault t ≡ 0 → long ≡ 4097 → n ≡ length (chain t) → n ≤ long
-listed_few t n long ok all e = omega (arith, all, e, chain_length t ok, records_bounds t ok)
-
+-- The listed records: within the table, and with room among the placements.
 pub listed_within : (t u ks : List ℕ) → fault t ≡ 0 → u ≡ t → ks ≡ chain t → (k : ℕ) → T (member k ks) → k < records u
 listed_within t u ks ok same listed k m = rw same (chain_within t ok k (rw listed at m)).1
 
@@ -96,17 +86,25 @@ pub listed_room : (t ks : List ℕ) (places long : ℕ) → fault t ≡ 0 → 2 
 listed_room t ks places long ok room same listed k m = omega (arith, room, same, (chain_within t ok k (rw listed at m)).1)
 
 -- What drawing the copy asks.
-pub mirrored_asked : (t u sizes order : List ℕ) (long places n : ℕ) → fault t ≡ 0 → u ≡ exchanged t → Chained t (root_of t) → Sized t sizes → Led t order →
-    long ≡ 4097 → 2 * records t ≤ places →
-    n ≡ length (chain t) → (fault u ≡ 0) × (Chained u (root_of u) ×
-    (Sized u sizes × (Led u order × ((long ≡ 4097) × ((2 * records u ≤ places) × (n ≡ length (chain u)))))))
-mirrored_asked t u sizes order long places n ok e root sized led all room count = rw e (
-  mirrored_fault t ok,
-  (
-    rw (exchanged_chain t, exchanged_head t 1 (omega arith)) root,
-    (mirrored_sized t ok sizes sized, (mirrored_led t ok order led, (all, (mirrored_room t ok places room, rw (exchanged_chain t) count)))),
-  ),
-)
+pub record Asked (u sizes order : List ℕ) : Type 0 where
+  pub sound : fault u ≡ 0
+  pub sized : Sized u sizes
+  pub chained : Chained u (root_of u)
+  pub led : Led u order
+
+pub mirrored_asked : (t u sizes order : List ℕ) → fault t ≡ 0 → u ≡ exchanged t → Chained t (root_of t) → Sized t sizes → Led t order → Asked u sizes order
+mirrored_asked t u sizes order ok e root sized led = rw e (record {
+  sound = mirrored_fault t ok;
+  sized = mirrored_sized t ok sizes sized;
+  chained = rw (exchanged_chain t, exchanged_head t 1 (omega arith)) root;
+  led = mirrored_led t ok order led;
+})
+
+pub mirrored_room : (t u : List ℕ) (places : ℕ) → u ≡ exchanged t → 2 * records t ≤ places → 2 * records u ≤ places
+mirrored_room t u places e room = rw (e, exchanged_length t) room
+
+pub mirrored_nodes : (t u nodes : List ℕ) → u ≡ exchanged t → nodes ≡ chain t → length nodes ≡ length (chain u)
+mirrored_nodes t u nodes e listed = rw (e, exchanged_chain t) (ap length listed)
 
 -- What it gives, when the placements are exchanged too.
 pub wide_planned : (t u p p' p'' ks : List ℕ) (a : Plan) → fault t ≡ 0 → 2 * records t ≤ length p → u ≡ exchanged t → ks ≡ chain t →

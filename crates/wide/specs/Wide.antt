@@ -1,16 +1,16 @@
 -- The wide plan and the whole answer of its call, for any bytes and placements (document 02, Papers 1 and 8; document 004, Corollary 1).
-use Rattle.std.specs.Prelude.{List, [], ◌∷◌, map, ℕ, length}
+use Rattle.std.specs.Prelude.{List, [], ◌∷◌, map, ℕ, length, Result}
 use Rattle.segment.specs.Segment.{at}
 use Rattle.table.specs.Table.{chain}
 use Rattle.table.specs.Tree.{Tree}
 use Rattle.table.specs.Trees.{trees}
 use Rattle.table.specs.Refusal.{refusal}
-use Rattle.table.specs.Said.{Said, answered, kept_on_refusal}
+use Rattle.table.specs.declared.Refusal.{Refusal}
+use Rattle.table.specs.Said.{Said, said_of, answered, kept_on_refusal}
 use Rattle.layout.specs.Layout.{Layout, blank, placed, mirror}
 use Rattle.layout.specs.Trees.{draw_trees, width_of, height_of}
 use Rattle.drawing.specs.Answer.{store_all}
-use Rattle.wide.specs.declared.Wide.{Wide}
-use Rattle.wide.specs.declared.Wide.TheVariants.{Planned, Refused}
+use Rattle.drawing.specs.declared.Plan.{Plan}
 
 -- "exchange column and row of each box"
 unfoldable pub transposed : Layout → Layout
@@ -22,9 +22,8 @@ unfoldable pub draw_wide : List Tree → List Layout
 draw_wide ts = map transposed (draw_trees (map mirror ts))
 
 -- What the answer says: a plan its nodes, width and height; "a refusal returns the number alone".
-unfoldable pub said : Wide → Said
-said (Planned plan) = record { number = 0; values = plan.nodes ∷ plan.width ∷ plan.height ∷ [] }
-said (Refused n) = record { number = n; values = [] }
+abbrev pub said : Result Plan Refusal → Said
+said = said_of (λ plan. plan.nodes ∷ plan.width ∷ plan.height ∷ [])
 
 -- What it has to say.
 unfoldable pub wide_of : List ℕ → List ℕ → Said

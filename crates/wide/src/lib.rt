@@ -1,11 +1,9 @@
 // The wide plan: the mirror images of the trees drawn, then column and row of each node exchanged.
 #![tactic(auto)]
 
-ghost use Rattle.std.specs.Prelude.{◌≡◌, ◌*◌, ◌≤◌, length, take};
+ghost use Rattle.std.specs.Prelude.{◌≡◌, ◌*◌, ◌≤◌, length};
 ghost use Rattle.table.specs.Table.{records, root_of, chain as chainOf, Chained};
 ghost use Rattle.table.specs.Trees.{trees};
-ghost use Rattle.table.specs.Refusal.{fault};
-ghost use Rattle.roles.specs.inner.Sized.{Sized};
 ghost use Rattle.drawing.specs.Answer.{store_all};
 ghost use Rattle.drawing.specs.inner.Placing.{Led};
 ghost use Rattle.wide.specs.Wide.{draw_wide, said, wide_of, wide_placed_in};
@@ -15,47 +13,29 @@ use drawing::{Plan, plan_of};
 use mirror::{exchange_placements, exchange_table};
 use records::read;
 use records::writing::copy;
-
-// The answer: a plan, or refused.
-#[derive(Clone, Copy)]
-pub enum Wide {
-    Planned(Plan),
-    Refused(u16),
-}
+use roles::Subtrees;
+use table::Refusal;
 
 // The wide plan of an accepted table that has nodes, from a mirrored copy of it.
-fn wide_plan(
-    table: &[u8],
-    chain: &[u16],
-    order: &[u16],
-    sizes: &[u16],
-    placements: &mut [u16],
-    nodes: usize,
-) -> Plan
-    requires table_value { fault table.now ≡ 0 }
-    requires chained { Chained table.now (root_of table.now) }
-    requires sized { Sized table.now sizes.now }
-    requires led { Led table.now order.now }
-    requires chain_len { (length chain.now ≡ 4097) × (take nodes chain.now ≡ chainOf table.now) }
-    requires table_in_bounds { 2 * records table.now ≤ length placements.old }
-    requires nodes_value { nodes ≡ length (chainOf table.now) }
-    ensures { (result ≡ wide_plan_of table.now)
-        × (placements.new ≡ store_all (draw_wide (trees table.now)) placements.old) }
+fn wide_plan(subtrees: Subtrees<'_>, nodes: &[u16], order: &[u16], placements: &mut [u16]) -> Plan
+    requires chained { Chained subtrees.table.now (root_of subtrees.table.now) }
+    requires listed { nodes.now ≡ chainOf subtrees.table.now }
+    requires led { Led subtrees.table.now order.now }
+    requires table_in_bounds { 2 * records subtrees.table.now ≤ length placements.old }
+    ensures { (result ≡ wide_plan_of subtrees.entry.table.now)
+        × (placements.new ≡ store_all (draw_wide (trees subtrees.entry.table.now)) placements.old) }
 {
-    let bytes = table.len();
+    let bytes = subtrees.table.len();
     let mut mirrored = [0u8; 32776];
-    copy(table, &mut mirrored);
-    exchange_table(&mut mirrored[..bytes], chain, nodes);
+    copy(subtrees.table, &mut mirrored);
+    exchange_table(&mut mirrored[..bytes], nodes);
     let mut roles = [0u16; 4097];
-    let plan = plan_of(
-        &mirrored[..bytes],
-        sizes,
-        order,
-        &mut roles,
-        placements,
-        nodes,
-    );
-    exchange_placements(placements, chain, nodes);
+    let mirror_image = Subtrees {
+        table: &mirrored[..bytes],
+        sizes: subtrees.sizes,
+    };
+    let plan = plan_of(mirror_image, order, &mut roles, placements, nodes.len());
+    exchange_placements(placements, nodes);
     Plan {
         nodes: plan.nodes,
         width: plan.height,
@@ -63,23 +43,25 @@ fn wide_plan(
     }
 }
 
-// Draws the wide plan of a table: its refusal, or the plan and the placements of its nodes. All placements are kept on a refusal.
+// Draws the wide plan of a table, or answers why it is refused, and places its nodes. All placements are kept on a refusal. It reads as `drawing::draw`
+// does: one function for both would take the drawing as a closure over four lent lists, and be no plainer.
 // Promised beyond this contract (promises/specs/Promises): `WideIsGood`, `AtMost37`, `WideRootsBeside`, `WideKeepsOthers`, `OffChainWide`,
 // `WidePlanAsBefore`.
-pub fn draw_wide(table: &[u8], placements: &mut [u16]) -> Wide
+pub fn draw_wide(table: &[u8], placements: &mut [u16]) -> Result<Plan, Refusal>
     ensures { (said result ≡ wide_of table.now placements.old)
         × (placements.new ≡ wide_placed_in table.now placements.old) }
 {
     let mut chain = [0u16; 4097];
     let mut order = [0u16; 4097];
     let mut sizes = [0u16; 4097];
-    let reading = read(table, placements.len(), &mut chain, &mut order, &mut sizes);
-    if reading.refusal != 0 {
-        return Wide::Refused(reading.refusal);
+    let nodes = read(table, placements.len(), &mut chain, &mut order, &mut sizes)?;
+    if nodes == 0 {
+        return Ok(Plan::EMPTY);
     }
-    if reading.nodes == 0 {
-        return Wide::Planned(Plan::EMPTY);
-    }
-    let plan = wide_plan(table, &chain, &order, &sizes, placements, reading.nodes);
-    Wide::Planned(plan)
+    let subtrees = Subtrees {
+        table,
+        sizes: &sizes,
+    };
+    let plan = wide_plan(subtrees, &chain[..nodes], &order, placements);
+    Ok(plan)
 }

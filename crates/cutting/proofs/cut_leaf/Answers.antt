@@ -1,44 +1,6 @@
--- `cut_leaf` writes what cutting writes: where each word is written it is known that it lies in the table and fits. Rests on Answering.
-use native.Mathlib.Omega.{arith}
-use Rattle.table.proofs.Accepted.{records_bounds}
+-- `cut_leaf` writes what cutting writes. Rests on Answering.
 use Rattle.cutting.proofs.Answering.{cut_words}
 use Rattle.cutting.proofs.cut_leaf.Goals as goal
-
--- What is read lies in the table, of which there is something and not much, and fits a word; a word that is written leaves the table as long as it was.
-pub set_word-requires : goal.set_word-requires
-set_word-requires c =
-    let b = records_bounds _ c.requires.nodes.accepted in
-    record { k_bound = (omega (arith, b), omega arith); n_bound = omega (arith, b) }
-
-pub set_word-requires-2 : goal.set_word-requires-2
-set_word-requires-2 c =
-    let b = records_bounds _ c.requires.nodes.accepted in
-    record { k_bound = (omega (arith, b), omega arith); n_bound = omega (arith, b) }
-
-pub set_word-requires-3 : goal.set_word-requires-3
-set_word-requires-3 c =
-    let b = records_bounds _ c.requires.nodes.accepted in
-    record { k_bound = (omega (arith, b), omega arith); n_bound = omega (arith, b) }
-
-pub set_word-requires-4 : goal.set_word-requires-4
-set_word-requires-4 c =
-    let b = records_bounds _ c.requires.nodes.accepted in
-    record { k_bound = (omega (arith, b), omega arith); n_bound = omega (arith, b) }
-
-pub set_word-requires-5 : goal.set_word-requires-5
-set_word-requires-5 c =
-    let b = records_bounds _ c.requires.nodes.accepted in
-    record { k_bound = (omega (arith, b), omega arith); n_bound = omega (arith, b) }
-
-pub set_word-requires-6 : goal.set_word-requires-6
-set_word-requires-6 c =
-    let b = records_bounds _ c.requires.nodes.accepted in
-    record { k_bound = (omega (arith, b), omega arith); n_bound = omega (arith, b) }
-
-pub set_word-requires-7 : goal.set_word-requires-7
-set_word-requires-7 c =
-    let b = records_bounds _ c.requires.nodes.accepted in
-    record { k_bound = (omega (arith, b), omega arith); n_bound = omega (arith, b) }
 
 pub returns : goal.returns
 returns c =

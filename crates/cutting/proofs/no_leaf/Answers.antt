@@ -1,72 +1,64 @@
 -- `no_leaf` answers cause 9 of cutting.
 use mathlib.Core.Path.{◌≡◌, sym, ◌∙◌}
-use mathlib.Core.Bool.{true, or-true}
+use mathlib.Core.Bool.{Bool, true, not, ◌||◌, ◌&&◌}
 use mathlib.Core.List.{List}
 use Prim.Native.Nat.{ℕ}
 use native.Mathlib.Omega.{arith}
-use lib.Dec.{ltb}
+use lib.Dec.{ltb, eqb}
 use lib.ListN.{length}
-use borrow.Author.Tests.{eq-eqb, ne_eqb}
-use Rattle.table.specs.Lists.{member}
-use Rattle.table.specs.Table.{left_of, right_of, root_of, chain as chainOf}
-use Rattle.table.proofs.Lists.{T_true}
+use Rattle.std.specs.Prelude.{nat_eq}
+use Rattle.std.specs.List.{list_any}
+use Rattle.std.proofs.lemmas.Bool.Decides.{nat_tests}
+use Rattle.table.specs.Table.{left_of, right_of, root_of}
 use Rattle.table.proofs.Accepted.{records_bounds}
-use Rattle.records.proofs.Nodes.{chained_below}
-use Rattle.records.proofs.Finding.{on_chain}
+use Rattle.records.specs.inner.Reading.{Nodes}
+use Rattle.records.proofs.Finding.{on_chain, chained, inside}
 use Rattle.cutting.specs.Cutting.{still_root, no_leaf}
-use Rattle.cutting.proofs.Places.{no_root}
 use Rattle.cutting.proofs.no_leaf.Goals as goal
+use Rattle.cutting.proofs.no_leaf.Goals.{then-left-ne0, else-left-ne0}
 
--- On the chain and without children: the root decides.
-childless : (t : List ℕ) (k : ℕ) → member k (chainOf t) ≡ true → left_of t k ≡ 0 → right_of t k ≡ 0 → no_leaf t k ≡ still_root t k
-unfolding no_leaf
-childless t k m a b = rw (m, eq-eqb (left_of t k) 0 a, eq-eqb (right_of t k) 0 b)
-
-alone : (t : List ℕ) (k n : ℕ) → k ≡ root_of t → n ≡ length (chainOf t) → ltb 1 n ≡ still_root t k
-unfolding still_root
-alone t k n e d = rw (eq-eqb k (root_of t) e, d)
+-- Of a record that is found among the nodes its children and the root decide.
+decided : {t list : List ℕ} (l : Nodes t list) (k : ℕ) {found : Bool} → found ≡ list_any (λ n. nat_eq n k) list → found ≡ true →
+    no_leaf t k ≡ not (eqb (left_of t k) 0) || (not (eqb (right_of t k) 0) || eqb k (root_of t) && ltb 1 (length list))
+unfolding no_leaf still_root
+decided l k is e = rw (chained l k is e, l.listed)
 
 pub returns-then-not-contains : goal.returns-then-not-contains
 unfolding no_leaf
-returns-then-not-contains c = rw (sym (on_chain c.requires _ c.contains.ensures) ∙ c.if-not-contains.true)
+returns-then-not-contains c = rw (sym (on_chain c.args.forest.listed _) ∙ sym c.contains.ensures.value ∙ c.if-not-contains.true)
 
 pub left-requires : goal.left-requires
 left-requires c =
     omega (
       arith,
-      (records_bounds _ c.requires.accepted).0,
-      chained_below c.requires _
-          ((T_true _).1 (sym (on_chain c.requires _ c.contains.ensures) ∙ c.if-not-contains.false)),
+      c.from-k.ensures,
+      records_bounds _ c.args.forest.listed.accepted,
+      inside c.args.forest.listed _ c.contains.ensures.value c.if-not-contains.false,
     )
-
-pub returns-then-left-ne0 : goal.returns-then-left-ne0
-unfolding no_leaf
-returns-then-left-ne0 c = rw (ne_eqb _ _ (λ e. c.if-left-ne0.true (c.left.ensures.0 ∙ e)), or-true)
 
 pub right-requires : goal.right-requires
 right-requires c =
     omega (
       arith,
-      (records_bounds _ c.requires.accepted).0,
-      chained_below c.requires _
-          ((T_true _).1 (sym (on_chain c.requires _ c.contains.ensures) ∙ c.if-not-contains.false)),
+      c.from-k.ensures,
+      records_bounds _ c.args.forest.listed.accepted,
+      inside c.args.forest.listed _ c.contains.ensures.value c.if-not-contains.false,
     )
 
-pub returns-then-right-ne0 : goal.returns-then-right-ne0
-unfolding no_leaf
-returns-then-right-ne0 c = rw (ne_eqb _ _ (λ e. c.if-right-ne0.true (c.right.ensures.0 ∙ e)), or-true, or-true)
+pub left-requires-else-right-ne0 : goal.left-requires-else-right-ne0
+left-requires-else-right-ne0 c = (records_bounds _ c.args.forest.listed.accepted).0
 
-pub left-requires-2 : goal.left-requires-2
-left-requires-2 c = omega (arith, records_bounds _ c.requires.accepted)
+pub returns-then-right-ne0 : goal.returns-then-right-ne0
+returns-then-right-ne0 c =
+    rw (decided c.args.forest.listed _ c.contains.ensures.value c.if-not-contains.false)
+    (elim c.if-left-ne0.branch [ then-left-ne0 w ↦ grind (arith, nat_tests) | else-left-ne0 w ↦ grind (arith, nat_tests) ])
 
 pub returns-then-k-left : goal.returns-then-k-left
 returns-then-k-left c =
-    sym (no_root _ _ (λ e. absurd (c.if-k-left.true (e ∙ sym c.left-2.ensures.0)))) ∙
-    sym (childless _ _ (sym (on_chain c.requires _ c.contains.ensures) ∙ c.if-not-contains.false)
-    (sym c.left.ensures.0 ∙ c.if-left-ne0.false) (sym c.right.ensures.0 ∙ c.if-right-ne0.false))
+    rw (decided c.args.forest.listed _ c.contains.ensures.value c.if-not-contains.false)
+    (elim c.if-left-ne0.branch [ then-left-ne0 w ↦ grind (arith, nat_tests) | else-left-ne0 w ↦ grind (arith, nat_tests) ])
 
-pub returns : goal.returns
-returns c =
-    alone _ _ _ (c.if-k-left.false ∙ c.left-2.ensures.0) c.requires.nodes ∙
-    sym (childless _ _ (sym (on_chain c.requires _ c.contains.ensures) ∙ c.if-not-contains.false)
-    (sym c.left.ensures.0 ∙ c.if-left-ne0.false) (sym c.right.ensures.0 ∙ c.if-right-ne0.false))
+pub returns-else-k-left : goal.returns-else-k-left
+returns-else-k-left c =
+    rw (decided c.args.forest.listed _ c.contains.ensures.value c.if-not-contains.false)
+    (elim c.if-left-ne0.branch [ then-left-ne0 w ↦ grind (arith, nat_tests) | else-left-ne0 w ↦ grind (arith, nat_tests) ])

@@ -4,9 +4,8 @@ use lib.ListN.{length}
 use Rattle.drawing.proofs.Stacking.{Stacking}
 use Rattle.drawing.proofs.draw_trees.Given as goal
 
-abbrev pub invariant-loop-unplaced : goal.invariant-loop-unplaced
-invariant-loop-unplaced l =
-    (length l.roles ≡ 4097) × ((length l.widest ≡ 4097) × Stacking l.table l.initial.placements l.width l.top l.unplaced l.i l.placements)
-
-abbrev pub decreases-loop-unplaced : goal.decreases-loop-unplaced
-decreases-loop-unplaced l = l.unplaced
+abbrev pub invariant-loop-root : goal.invariant-loop-root
+invariant-loop-root l =
+    (length l.roles ≡ 4097)
+    × ((length l.widest ≡ 4097)
+    × Stacking l.subtrees.table.now l.initial.placements l.width l.top l.unplaced l.root-index l.placements)

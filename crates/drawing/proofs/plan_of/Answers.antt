@@ -1,5 +1,4 @@
 -- `plan_of` meets its contract: the trees are drawn, and the extents are 16-bit numbers.
-use mathlib.Core.Path.{refl}
 use native.Mathlib.Omega.{arith}
 use Rattle.drawing.proofs.Whole.{small_plan, plan_drawn}
 use Rattle.drawing.proofs.plan_of.Goals as goal
@@ -7,26 +6,23 @@ use Rattle.drawing.proofs.plan_of.Goals as goal
 pub draw_trees-extent-requires : goal.draw_trees-extent-requires
 draw_trees-extent-requires c =
     record {
-      table_value = c.requires.table_value;
       chained = c.requires.chained;
-      sized = c.requires.sized;
       led = c.requires.led;
-      roles_len = (c.requires.roles_len, refl);
       table_in_bounds = c.requires.table_in_bounds;
       nodes_value = c.requires.nodes_value;
     }
 
 pub overflow_cast-result : goal.overflow_cast-result
 overflow_cast-result c =
-    omega (arith, small_plan _ c.requires.table_value _ _ _ _ _ c.requires.nodes_value c.draw_trees-extent.ensures)
+    omega (arith, small_plan _ c.args.subtrees.sound _ _ _ _ _ c.requires.nodes_value c.draw_trees-extent.ensures)
 
 pub overflow_cast-result-2 : goal.overflow_cast-result-2
 overflow_cast-result-2 c =
-    omega (arith, small_plan _ c.requires.table_value _ _ _ _ _ c.requires.nodes_value c.draw_trees-extent.ensures)
+    omega (arith, small_plan _ c.args.subtrees.sound _ _ _ _ _ c.requires.nodes_value c.draw_trees-extent.ensures)
 
 pub overflow_cast-result-3 : goal.overflow_cast-result-3
 overflow_cast-result-3 c =
-    omega (arith, small_plan _ c.requires.table_value _ _ _ _ _ c.requires.nodes_value c.draw_trees-extent.ensures)
+    omega (arith, small_plan _ c.args.subtrees.sound _ _ _ _ _ c.requires.nodes_value c.draw_trees-extent.ensures)
 
 pub returns : goal.returns
 returns c =

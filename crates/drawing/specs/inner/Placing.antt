@@ -1,28 +1,21 @@
 -- Placing, for the contracts of the drawer's inner functions: what is asked before a subtree is drawn, and what is left of a spine on the way. Nothing here
 -- need be believed: the drawer's contract does not cite it.
-use Rattle.std.specs.Prelude.{◌≡◌, Bool, List, [], ◌∷◌, ℕ, ◌+◌, ◌*◌, ◌≤◌, ◌<◌, length, get_or}
+use Rattle.std.specs.Prelude.{◌≡◌, List, [], ◌∷◌, ℕ, ◌+◌, ◌≤◌, ◌<◌, length, get_or}
 use Rattle.table.specs.Lists.{count}
-use Rattle.table.specs.Table.{Side, records}
+use Rattle.table.specs.Table.{Side}
 use Rattle.table.specs.Tree.{Tree, none, size, nodes, tree_at}
 use Rattle.table.specs.Trees.{roots, trees}
-use Rattle.table.specs.Refusal.{fault}
 use Rattle.layout.specs.Spine.{SpineNode, Role, knee, ordinary, switch}
 use Rattle.layout.specs.Drawing.{Rest}
 use Rattle.layout.specs.Trees.{draw_trees, width_of, height_of}
 use Rattle.layout.specs.inner.Held.{inwards, hung_on, height_on, width_on, spine_on, lay, bottom, Inside, Rooms}
-use Rattle.roles.specs.inner.Sized.{Named, Sized}
+use Rattle.roles.specs.inner.Sized.{Named}
 use Rattle.roles.specs.Chosen.{side_of}
+use Rattle.roles.specs.declared.sides.Side.{Side as CodeSide}
 use Rattle.roles.specs.inner.Prepared.{Prepared, Along}
 use Rattle.drawing.specs.declared.place.Walk.{Walk}
+use Rattle.drawing.specs.declared.spines.Spines.{Spines}
 use Rattle.drawing.specs.Answer.{store, store_all}
-
--- The lists are those of an accepted table, and the placements are enough.
-pub record Given (t sizes roles widest p : List ℕ) : Type 0 where
-  pub sound : fault t ≡ 0
-  pub sized : Sized t sizes
-  pub long_roles : length roles ≡ 4097
-  pub long_widest : length widest ≡ 4097
-  pub enough : 2 * records t ≤ length p
 
 -- The subtree at record k can be drawn on the side s, its edge c columns inwards from the edge e of a hand, from its top row on: it is measured, and its
 -- columns and rows are 16-bit numbers.
@@ -64,16 +57,16 @@ pub record Ready (roles widest : List ℕ) (W : ℕ) (a : Side) (e : ℕ) (o : R
 -- ---- the same, of a walk
 
 -- The walk at another node of its spine.
-abbrev pub walk_to : Walk → (at row lowest pending : ℕ) → Bool → ℕ → Walk
+abbrev pub walk_to : Walk → (at row lowest pending : ℕ) → CodeSide → ℕ → Walk
 walk_to w at row lowest pending hand edge =
-    record { at = at; row = row; lowest = lowest; pending = pending; right = hand; edge = edge; widest = w.widest; mirrored = w.mirrored }
+    record { at = at; row = row; lowest = lowest; pending = pending; hand = hand; edge = edge; widest = w.widest; side = w.side }
 
 -- The hand that it is on, the spine from its node on, the first row below all that is left, and the placements when that is drawn.
 abbrev pub hand_at : Walk → Side
-hand_at w = side_of w.right
+hand_at w = side_of w.hand
 
 abbrev pub spine_from : List ℕ → Walk → List SpineNode
-spine_from t w = spine_on (side_of w.mirrored) (tree_at t w.at)
+spine_from t w = spine_on (side_of w.side) (tree_at t w.at)
 
 abbrev pub row_below : List ℕ → Role → Walk → ℕ
 row_below t o w = bottom (hand_at w) o w.lowest w.row (height_on (hand_at w) (tree_at t w.pending)) (spine_from t w)
@@ -100,6 +93,14 @@ pub record Stepped (t roles widest : List ℕ) (o : Role) (w : Walk) (p : List �
   pub as_deep : row_below t role w' ≡ row_below t o w
   pub fewer : unplaced t w' < unplaced t w
   pub shorter : size (tree_at t w'.at) < size (tree_at t w.at)
+
+-- Nothing but the points differs, and as many points are lent.
+pub record Kept (before after : Spines) : Type 0 where
+  pub table : after.subtrees.table.now ≡ before.subtrees.table.now
+  pub roles : after.roles.now ≡ before.roles.now
+  pub widest : after.widest.now ≡ before.widest.now
+  pub same : after.points.ghost_name ≡ before.points.ghost_name
+  pub long : length after.points.now ≡ length before.points.now
 
 -- ---- several trees
 

@@ -1,68 +1,56 @@
 -- `no_place` answers cause 9 of hanging.
-use mathlib.Core.Path.{◌≡◌, sym, ◌∙◌}
-use mathlib.Core.Bool.{not, true}
+use mathlib.Core.Path.{◌≡◌, refl}
+use mathlib.Core.Bool.{Bool, true, false, not, ◌&&◌, ◌||◌}
 use mathlib.Core.List.{List}
 use Prim.Native.Nat.{ℕ, ◌+◌, ◌≤◌}
 use native.Mathlib.Omega.{arith}
 use lib.Dec.{eqb}
 use borrow.Author.Tests.{eq-eqb, ne_eqb, le-ltb}
-use Rattle.table.specs.Lists.{member}
-use Rattle.table.specs.Table.{word, next_of, left_of, chain as chainOf}
+use Rattle.std.specs.Prelude.{nat_eq}
+use Rattle.std.specs.List.{list_any}
+use Rattle.std.proofs.lemmas.Bool.Decides.{nat_tests}
+use Rattle.table.specs.Table.{word, next_of, left_of}
 use Rattle.table.specs.Refusal.{is_empty}
-use Rattle.table.proofs.Lists.{T_true}
 use Rattle.table.proofs.Accepted.{records_bounds}
-use Rattle.records.proofs.Nodes.{chained_below}
-use Rattle.records.proofs.Finding.{on_chain}
+use Rattle.records.specs.inner.Reading.{Nodes}
+use Rattle.records.proofs.Finding.{on_chain, inside}
 use Rattle.hanging.specs.Hanging.{slot, no_place}
 use Rattle.hanging.proofs.no_place.Goals as goal
 
--- Of the head without a next, the root decides; of a chained parent, the link.
-no_root : (t : List ℕ) (parent side l : ℕ) → side ≤ 1 → parent ≡ 0 → next_of t 0 ≡ 0 → l ≡ left_of t 0 → not (eqb l 0) ≡ no_place t parent side
-unfolding no_place is_empty
-no_root t parent side l h p n e = rw (le-ltb 1 side h, eq-eqb parent 0 p, eq-eqb (next_of t 0) 0 n, e)
+not_both : (a b : Bool) → not (a && b) ≡ not a || not b
+not_both true b = refl
+not_both false b = refl
 
-side-taken : (t : List ℕ) (parent side l : ℕ) → side ≤ 1 → (parent ≡ 0 → ⊥) → member parent (chainOf t) ≡ true → l ≡ word t parent (1 + side) →
-    not (eqb l 0) ≡ no_place t parent side
+-- Of the head its links decide; of another parent, whether it is a node, and its link.
+of_head : (t : List ℕ) (parent side : ℕ) → side ≤ 1 → parent ≡ 0 → no_place t parent side ≡ not (eqb (next_of t 0) 0) || not (eqb (left_of t 0) 0)
+unfolding no_place is_empty
+of_head t parent side h p = rw (le-ltb 1 side h, eq-eqb parent 0 p) (not_both (eqb (next_of t 0) 0) (eqb (left_of t 0) 0))
+
+of_node : {t list : List ℕ} (l : Nodes t list) (parent side : ℕ) → side ≤ 1 → (parent ≡ 0 → ⊥) → {found : Bool} →
+    found ≡ list_any (λ n. nat_eq n parent) list → no_place t parent side ≡ not found || not (eqb (word t parent (1 + side)) 0)
 unfolding no_place slot
-side-taken t parent side l h p m e = rw (le-ltb 1 side h, ne_eqb parent 0 p, m, e)
+of_node l parent side h p is = rw (le-ltb 1 side h, ne_eqb parent 0 p, is, on_chain l parent)
 
 pub next-requires : goal.next-requires
-next-requires c = (records_bounds _ c.requires.accepted).0
-
-pub returns-then-next-ne0 : goal.returns-then-next-ne0
-unfolding no_place is_empty
-returns-then-next-ne0 c =
-    rw (
-      le-ltb 1 c.args.side (omega arith),
-      eq-eqb _ _ c.if-parent-eq0.true,
-      ne_eqb _ _
-          (λ e. c.if-next-ne0.true (c.next.ensures.0 ∙ e)),
-    )
+next-requires c = (records_bounds _ c.args.forest.listed.accepted).0
 
 pub left-requires : goal.left-requires
-left-requires c = (records_bounds _ c.requires.accepted).0
+left-requires c = (records_bounds _ c.args.forest.listed.accepted).0
 
-pub returns-then-parent-eq0 : goal.returns-then-parent-eq0
-returns-then-parent-eq0 c =
-    no_root _ _ _ _ (omega arith) c.if-parent-eq0.true (sym c.next.ensures.0 ∙ c.if-next-ne0.false)
-    c.left.ensures.0
+pub returns-then-next-ne0 : goal.returns-then-next-ne0
+returns-then-next-ne0 c = rw (of_head _ _ c.args.side (omega arith) c.if-parent-eq0.true) (grind (arith, nat_tests))
 
-pub returns-then-not-contains : goal.returns-then-not-contains
-unfolding no_place
-returns-then-not-contains c =
-    rw (
-      le-ltb 1 c.args.side (omega arith),
-      ne_eqb _ _ c.if-parent-eq0.false,
-      sym (on_chain c.requires _ c.contains.ensures) ∙ c.if-not-contains.true,
-    )
+pub returns-else-next-ne0 : goal.returns-else-next-ne0
+returns-else-next-ne0 c = rw (of_head _ _ c.args.side (omega arith) c.if-parent-eq0.true) (grind (arith, nat_tests))
 
 pub word-requires : goal.word-requires
-word-requires c = (
-  chained_below c.requires _ ((T_true _).1 (sym (on_chain c.requires _ c.contains.ensures) ∙ c.if-not-contains.false)),
-  omega arith,
-)
+word-requires c =
+    (omega (arith, c.from.ensures, inside c.args.forest.listed _ c.contains.ensures.value c.if-not-contains.false), omega arith)
 
-pub returns : goal.returns
-returns c =
-    side-taken _ _ _ _ (omega arith) c.if-parent-eq0.false
-    (sym (on_chain c.requires _ c.contains.ensures) ∙ c.if-not-contains.false) c.word.ensures.0
+pub returns-then-not-contains : goal.returns-then-not-contains
+returns-then-not-contains c =
+    rw (of_node c.args.forest.listed _ c.args.side (omega arith) c.if-parent-eq0.false c.contains.ensures.value, c.if-not-contains.true)
+
+pub returns-else-not-contains : goal.returns-else-not-contains
+returns-else-not-contains c =
+    rw (of_node c.args.forest.listed _ c.args.side (omega arith) c.if-parent-eq0.false c.contains.ensures.value, c.if-not-contains.false) (cc)

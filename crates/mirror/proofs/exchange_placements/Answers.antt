@@ -1,26 +1,13 @@
--- `exchange_placements` meets its contract. The invariant of its loop: i records are done.
+-- `exchange_placements`: the records that the loop has passed are done. Rests on Loops.
 use native.Mathlib.Omega.{arith}
-use Rattle.mirror.proofs.Loops.{listed, done_none, done_more, done_all}
+use Rattle.mirror.proofs.Loops.{listed, done_more, done_all}
 use Rattle.mirror.proofs.exchange_placements.Goals as goal
 
-pub loop-i-init : goal.loop-i-init
-loop-i-init c = done_none c.requires.nodes_in_bounds _
-
-pub overflow_cast-list : goal.overflow_cast-list
-overflow_cast-list c = omega (arith, c.shared_slice_known-in-loop-i-1.given c.loop-i.i)
-
 pub exchange_point-requires : goal.exchange_point-requires
-exchange_point-requires c =
-    let h = c.loop-i in
-    omega (arith, c.requires.by_index _ (listed _ _ _ c.requires.nodes_in_bounds c.loop-i-test.true), h.invariant.long)
+exchange_point-requires c = omega (arith, c.requires _ (listed _ c.loop-k-test.true c.from.ensures))
 
-pub loop-i-preserved : goal.loop-i-preserved
-loop-i-preserved c =
-    done_more c.requires.nodes_in_bounds c.loop-i-test.true c.loop-i.invariant
-    c.exchange_point.ensures c.exchange_point.auto.placements
-
-pub shape_of-placements : goal.shape_of-placements
-shape_of-placements c = c.loop-i.invariant.long
+pub loop-k-preserved : goal.loop-k-preserved
+loop-k-preserved c = done_more c.loop-k-test.true c.loop-k.invariant c.from.ensures c.exchange_point.ensures
 
 pub returns : goal.returns
-returns c = done_all c.requires.nodes_in_bounds c.loop-i-test.false c.loop-i.invariant
+returns c = done_all (omega arith) c.loop-k.invariant

@@ -14,4 +14,4 @@ written_back p q k a b e f g h = rw (e, f, g, h)
 
 pub returns : goal.returns
 returns c =
-    written_back _ _ _ _ _ c.set_point.ensures c.index.ensures c.index-2.ensures c.point-old.ensures
+    written_back _ _ _ _ _ c.set_point.ensures c.from.ensures c.from-2.ensures c.point-old.ensures

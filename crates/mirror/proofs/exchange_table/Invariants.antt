@@ -1,11 +1,7 @@
--- `exchange_table` meets its contract. The invariant of its loop: i records are done.
-use Prim.Native.Nat.{◌-◌}
+-- `exchange_table`: the records that the loop has passed are done.
 use Rattle.mirror.specs.Exchanged.{exchange_links}
 use Rattle.mirror.proofs.Loops.{Done}
 use Rattle.mirror.proofs.exchange_table.Given as goal
 
-abbrev pub invariant-loop-i : goal.invariant-loop-i
-invariant-loop-i l = Done exchange_links l.list l.nodes l.initial.table l.table l.i
-
-abbrev pub decreases-loop-i : goal.decreases-loop-i
-decreases-loop-i l = l.nodes - l.i
+abbrev pub invariant-loop-k : goal.invariant-loop-k
+invariant-loop-k l = Done exchange_links l.list l.initial.table l.table l.k-index

@@ -2,9 +2,9 @@
 use Rattle.neighbours.proofs.Steps.{abreast_none, abreast_over}
 use Rattle.sort.specs.inner.Order.{Ascending}
 use Rattle.line.specs.inner.Line.{first, last, Onward}
-use Rattle.neighbours.specs.inner.Abreast.{EndsBy, Starting, Abreast, Downto}
+use Rattle.neighbours.specs.inner.Abreast.{EndsBy, Abreast, Downto}
 use lib.ListN.{length, get_or}
-use mathlib.Core.Path.{◌≡◌, refl, sym, subst, subst₂}
+use mathlib.Core.Path.{◌≡◌, refl, ap, sym, ◌∙◌, subst, subst₂}
 use mathlib.Core.List.{List}
 use Prim.Native.Nat.{ℕ, ◌+◌, ◌-◌, ◌≤◌, ◌<◌}
 use native.Mathlib.Omega.{arith}
@@ -40,65 +40,37 @@ reached-out {level = level} least e r d = record {
 }
 
 pub loop-i-init : goal.loop-i-init
-loop-i-init c = (omega arith, omega arith, reached-none _ _ refl)
-
-pub place-p-requires : goal.place-p-requires
-place-p-requires c = let l = c.loop-i in record { room = omega arith; below = l.invariant.2.so.below }
-
-pub starting-e-requires : goal.starting-e-requires
-starting-e-requires c = let l = c.loop-i in record {
-  places = record { room = omega arith; below = l.invariant.2.so.below };
-  p_le_m = omega arith;
-}
-
-pub overflow_sub-i : goal.overflow_sub-i
-overflow_sub-i c = omega (arith, (c.ends_at.ensures c.if-ends_at.true).0)
-
-pub come_in-requires : goal.come_in-requires
-come_in-requires c =
-    let l = c.loop-i in
-    let f = c.ends_at.ensures c.if-ends_at.true in record {
-      onward = c.requires.onward;
-      places = record { room = omega arith; below = l.invariant.2.so.below };
-      starting = subst (λ (t : ℕ). Starting c.place-p.result c.starting-e.result t c.args.lines.now l.abreast) (sym f.1)
-          c.starting-e.ensures.1;
-      room = (omega arith, omega (arith, f.0), omega (arith, f.0), omega arith);
-    }
-
-pub loop-i-smaller-then-ends_at : goal.loop-i-smaller-then-ends_at
-loop-i-smaller-then-ends_at c =
-    let g = c.starting-e.ensures in
-    omega (arith, (c.ends_at.ensures c.if-ends_at.true).0, g.0, g.1.onward)
+loop-i-init c =
+    let f = c.new-front.ensures in
+    (omega (arith, f.count), f.lines, ap length f.places, rw (f.count, f.places) (reached-none _ _ refl))
 
 pub loop-i-preserved-then-ends_at : goal.loop-i-preserved-then-ends_at
 loop-i-preserved-then-ends_at c =
+    let l = c.loop-i in
     let f = c.ends_at.ensures c.if-ends_at.true in
-    let d = c.come_in.ensures c.if-not-come_in.false in (
-      omega (arith, f.0, c.starting-e.ensures.1.onward),
-      omega (arith, c.come_in.auto.abreast, c.loop-i.invariant),
-      rw c.first-soon.ensures (reached-in c.requires.onward c.requires.ascending f.0 (omega arith) c.loop-i.invariant.2 d),
+    let d = c.come_in.ensures in (
+      omega (arith, f.0, c.starting-to.ensures.1.onward, d.count),
+      d.lines.0 ∙ l.invariant.1,
+      d.lines.1 ∙ l.invariant.2,
+      rw c.first-soon.ensures (reached-in c.requires.onward c.requires.ascending f.0 (omega arith) l.invariant.3
+          (rw l.invariant.1 at (d.reached c.if-not-come_in.false))),
     )
-
-pub go_out-requires : goal.go_out-requires
-go_out-requires c =
-    let e = c.starting-e.ensures in
-    record {
-      onward = c.requires.onward;
-      places = record { room = omega arith; below = c.loop-i.invariant.2.so.below };
-      p_le_e = (e.1.onward, e.0);
-    }
 
 pub loop-i-preserved : goal.loop-i-preserved
 loop-i-preserved c =
     let l = c.loop-i in
     let v = c.next_level-level.ensures in
-    let d = c.go_out.ensures c.if-not-go_out.false l.i c.next_level-level.result (omega arith)
-    c.starting-e.ensures.1 in
-    (omega (arith, c.starting-e.ensures.1.onward), omega arith, reached-out v.least v.reached l.invariant.2 d)
+    let d = c.go_out.ensures in
+    let r = rw l.invariant.1 at (d.reached c.if-not-go_out.false l.i c.next_level-level.result (rw l.invariant.1 (omega arith)) c.starting-to.ensures.1) in (
+      omega (arith, c.starting-to.ensures.1.onward, d.count),
+      d.lines.0 ∙ l.invariant.1,
+      d.lines.1 ∙ l.invariant.2,
+      reached-out v.least v.reached l.invariant.3 r,
+    )
 
 pub returns : goal.returns
 returns c = λ z.
     let l = c.loop-i in
-    let r = l.invariant.2 in
+    let r = l.invariant.3 in
     abreast_over c.requires.onward
-    (subst₂ (λ (i m : ℕ). Abreast (length c.args.lines.now) i r.level m c.args.lines.now l.abreast) (omega arith) (omega arith) r.so)
+    (subst₂ (λ (i m : ℕ). Abreast (length c.args.lines.now) i r.level m c.args.lines.now l.front.places.now) (omega arith) (omega arith) r.so)

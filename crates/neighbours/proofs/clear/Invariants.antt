@@ -14,7 +14,9 @@ pub record Reached (i m soon : ℕ) (lines abreast : List ℕ) : Type 0 where
   pub so : Abreast (length lines) i level m lines abreast
 
 abbrev pub invariant-loop-i : goal.invariant-loop-i
-invariant-loop-i l = (l.i + l.m ≤ length l.lines) × (length l.abreast ≡ length l.initial.abreast) × Reached l.i l.m l.soon l.lines l.abreast
+invariant-loop-i l =
+    (l.i + l.front.count ≤ length l.lines) × (l.front.lines.now ≡ l.lines) × (length l.front.places.now ≡ length l.fn.abreast) ×
+    Reached l.i l.front.count l.soon l.lines l.front.places.now
 
 abbrev pub decreases-loop-i : goal.decreases-loop-i
-decreases-loop-i l = l.i + l.i + l.m
+decreases-loop-i l = l.i + l.i + l.front.count

@@ -1,10 +1,6 @@
--- The loop has set the parents of the children of the nodes that it has passed. Rests on Upward, and on the laws of a listed chain.
-use Prim.Native.Nat.{◌≤◌, ◌-◌}
+-- The loop has set the parents of the children of the nodes that it has passed. Rests on Upward.
 use Rattle.parents.proofs.Upward.{Upward}
 use Rattle.parents.proofs.find_parents.Given as goal
 
-abbrev pub invariant-loop-i : goal.invariant-loop-i
-invariant-loop-i l = (l.i ≤ l.nodes) × Upward l.table l.chain l.up l.i
-
-abbrev pub decreases-loop-i : goal.decreases-loop-i
-decreases-loop-i l = l.nodes - l.i
+abbrev pub invariant-loop-node : goal.invariant-loop-node
+invariant-loop-node l = Upward l.forest.table.now l.forest.nodes.now l.up l.node-index

@@ -1,53 +1,39 @@
 -- `examine` answers the refusal from the bytes alone, and lists an accepted table.
-use mathlib.Core.Path.{sym, ◌∙◌}
-use Rattle.table.specs.Table.{chain as chainOf}
-use Rattle.chains.specs.inner.Listing.{Shaped, Listed}
+use mathlib.Core.Path.{sym}
 use Rattle.records.proofs.Form.{shaped}
 use Rattle.chains.proofs.Zeros.{blank}
-use Rattle.chains.proofs.Walking.{walked_breaks, walked_listed, walked_marked, from_next}
-use Rattle.records.proofs.Answer.{refused_form, refused_chain, examined}
+use Rattle.chains.proofs.Walking.{from_next}
+use Rattle.records.proofs.Answer.{refused_form, refused_chain, refused_later, examined}
 use Rattle.records.proofs.examine.Goals as goal
 
-pub returns-then-unfit-ne0 : goal.returns-then-unfit-ne0
-returns-then-unfit-ne0 c = rw c.refused.ensures (refused_form _ _ _ _ c.shape-unfit.ensures c.if-unfit-ne0.true)
+pub returns-in_err-check_shape : goal.returns-in_err-check_shape
+returns-in_err-check_shape c = refused_form _ _ _ _ _ c.from_residual.ensures.1 c.in_err-check_shape.ensures
 
 pub next-requires : goal.next-requires
-next-requires c =
-    let formed : Shaped c.args.table.now = shaped _ (sym c.shape-unfit.ensures ∙ c.if-unfit-ne0.false) in
-    (formed).head
+next-requires c = (shaped _ (sym c.in_ok-check_shape.ensures)).head
 
-pub walk-walked-requires : goal.walk-walked-requires
-walk-walked-requires c =
-    let formed : Shaped c.args.table.now = shaped _ (sym c.shape-unfit.ensures ∙ c.if-unfit-ne0.false) in
-    record {
-      shaped = formed;
-      first_bound = c.next.ensures.1;
-      list_len = c.requires.chain_len;
-      blank = blank;
-    }
+pub walk-requires-clause-shaped : goal.walk-requires-clause-shaped
+walk-requires-clause-shaped c = shaped _ (sym c.in_ok-check_shape.ensures)
 
-pub returns-then-walked : goal.returns-then-walked
-returns-then-walked c =
-    let formed : Shaped c.args.table.now = shaped _ (sym c.shape-unfit.ensures ∙ c.if-unfit-ne0.false) in
-    rw c.refused-then-walked.ensures
-    (refused_chain _ _ _ (formed)
-    (sym (walked_breaks _ _ _ _ _ c.walk-walked.ensures _ (from_next _ _ c.next.ensures.0)) ∙ c.if-walked.true))
+pub walk-requires-clause-blank : goal.walk-requires-clause-blank
+walk-requires-clause-blank c = blank
 
-pub tangled-cause-requires : goal.tangled-cause-requires
-tangled-cause-requires c =
-    let listed : let t = c.args.table.now in
-    Listed t (chainOf t) c.walk-walked.result.count c.walk-walked.new.list =
-    walked_listed _ _ _ _ _ c.walk-walked.ensures _ (from_next _ _ c.next.ensures.0) c.if-walked.false in
-    record {
-      listed = listed;
-      marked = walked_marked _ _ _ _ _ c.walk-walked.ensures _ (from_next _ _ c.next.ensures.0) c.if-walked.false;
-      blank = c.requires.blank;
-    }
+pub returns-in_default : goal.returns-in_default
+returns-in_default c =
+    refused_chain _ _ _ (shaped _ (sym c.in_ok-check_shape.ensures)) (rw (from_next _ _ c.next.ensures.0) at c.in_default.ensures)
+
+pub check_trees-requires-clause-listed : goal.check_trees-requires-clause-listed
+check_trees-requires-clause-listed c = rw (from_next _ _ c.next.ensures.0) at c.in-Some.ensures.listed
+
+pub check_trees-requires-clause-marked : goal.check_trees-requires-clause-marked
+check_trees-requires-clause-marked c = rw (from_next _ _ c.next.ensures.0) at c.in-Some.ensures.marked
+
+pub returns-in_err-check_trees : goal.returns-in_err-check_trees
+returns-in_err-check_trees c =
+    let listed = rw (from_next _ _ c.next.ensures.0) at c.in-Some.ensures.listed in
+    refused_later _ _ _ listed.shaped listed.sound _ _ _ c.from_residual-in_err-check_trees.ensures.1 c.in_err-check_trees.ensures
 
 pub returns : goal.returns
 returns c =
-    let listed : let t = c.args.table.now in
-    Listed t (chainOf t) c.walk-walked.result.count c.walk-walked.new.list =
-    walked_listed _ _ _ _ _ c.walk-walked.ensures _ (from_next _ _ c.next.ensures.0) c.if-walked.false in
-    let l = listed in
-    examined _ _ _ l.shaped l.sound _ _ c.tangled-cause.ensures l
+    let met = rw (from_next _ _ c.next.ensures.0) at c.in-Some.ensures in
+    examined _ _ _ met.listed.shaped met.listed.sound _ _ met c.in_ok-check_trees.ensures

@@ -2,12 +2,11 @@
 use Rattle.records.proofs.Answer.{refused_bytes, refused_placements, traced}
 use Rattle.records.proofs.trace.Goals as goal
 
-pub returns-then-reading-ne0 : goal.returns-then-reading-ne0
-returns-then-reading-ne0 c = refused_bytes _ _ _ _ _ c.examine-reading.ensures c.if-reading-ne0.true
+pub returns-in_err-nodes : goal.returns-in_err-nodes
+returns-in_err-nodes c = refused_bytes _ _ _ _ _ _ c.from_residual.ensures.1 c.in_err-nodes.ensures
 
 pub returns-then-places-table : goal.returns-then-places-table
-returns-then-places-table c =
-    rw c.refused.ensures (refused_placements _ _ _ _ _ c.examine-reading.ensures c.if-reading-ne0.false c.if-places-table.true)
+returns-then-places-table c = refused_placements _ _ _ _ _ c.in_ok-nodes.ensures c.if-places-table.true
 
 pub returns : goal.returns
-returns c = traced _ _ _ _ _ c.examine-reading.ensures c.if-reading-ne0.false c.if-places-table.false
+returns c = traced _ _ _ _ _ c.in_ok-nodes.ensures c.if-places-table.false

@@ -40,7 +40,7 @@ abbrev pub Stands : Fork → Tree → Type 0
 Stands f S = (f.hung ≡ 0) ↔ (S ≡ none)
 
 abbrev pub node_of : Fork → ℕ → Tree → SpineNode
-node_of f k S = hangs k (side_of f.hung_right) S
+node_of f k S = hangs k (side_of f.side) S
 
 -- Step 2, in a run of the hand a.
 pub record Runs (a : Side) (f : Fork) (r : Role) : Type 0 where

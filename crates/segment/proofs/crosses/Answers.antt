@@ -1,13 +1,14 @@
 -- `segment::crosses` meets its contract.
-use mathlib.Core.Path.{refl, ◌∙◌}
-use Rattle.segment.proofs.Crossing.{crosses_decides}
-use Rattle.segment.proofs.Answers.{answer, and_skip, and_stop, crosses_by}
+use Rattle.std.proofs.lemmas.Grind.{common_steps}
+use native.Mathlib.Omega.{arith}
+use Rattle.segment.proofs.Crossing.{crosses}
+use Rattle.segment.proofs.Answers.{crossed}
 use Rattle.segment.proofs.crosses.Goals as goal
 
-pub returns-then-divides : goal.returns-then-divides
-returns-then-divides c = answer c.divides-then-divides.result (and_skip c.if-divides.true (crosses_by _ _ _ _ c.divides.ensures c.divides-then-divides.ensures))
-    (crosses_decides _ _ _ _)
+pub returns-then-astride : goal.returns-then-astride
+unfolding crosses
+returns-then-astride c = crossed (grind (arith, common_steps))
 
-pub returns-else-divides : goal.returns-else-divides
-returns-else-divides c = answer c.divides.result (c.if-divides.false ∙ and_stop _ c.if-divides.false (crosses_by _ _ _ _ c.divides.ensures refl))
-    (crosses_decides _ _ _ _)
+pub returns-else-astride : goal.returns-else-astride
+unfolding crosses
+returns-else-astride c = crossed (grind (arith, common_steps))

@@ -1,12 +1,18 @@
 -- Tests that the code makes, proved to agree with the meaning in Segment.antt and Meeting.antt (proofs/SharedPoint.antt, proofs/Crossing.antt), and points
 -- transposed and numbered.
-use Rattle.std.specs.Prelude.{Bool, ◌&&◌, ◌||◌, ℕ, ◌+◌, ◌*◌, min, max, leb, ℤ, pos}
+use Rattle.std.specs.Prelude.{Bool, true, false, ◌&&◌, ◌||◌, ℕ, ◌+◌, ◌*◌, min, max, leb, ℤ, pos}
+use Rattle.std.specs.Int.Signed.{le_z, lt_z}
 use Rattle.segment.specs.declared.Point.{Point}
 use Rattle.segment.specs.Segment.{at, cross}
 
 -- the intervals from a to b and from x to y have a number in common
 unfoldable pub overlap : ℕ → ℕ → ℕ → ℕ → Bool
 overlap a b x y = leb (min a b) (max x y) && leb (min x y) (max a b)
+
+-- below, or at most
+abbrev pub order : Bool → ℤ → ℤ → Bool
+order true = lt_z
+order false = le_z
 
 -- zero is from d to e (by le_z), or strictly between them (by lt_z)
 unfoldable pub spans : (ℤ → ℤ → Bool) → ℤ → ℤ → Bool

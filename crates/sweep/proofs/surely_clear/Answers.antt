@@ -1,17 +1,7 @@
 -- `surely_clear`: lines without a clash meet in no worse way than apart. Rests on Seeing and Grades.
 use Rattle.sweep.proofs.Grades.{worst_clear}
-use Rattle.sweep.proofs.Seeing.{settled_seen, settled_onward, settled_ascends, seen_worst}
-use native.Mathlib.Omega.{arith}
+use Rattle.sweep.proofs.Seeing.{settled_seen, seen_worst}
 use Rattle.sweep.proofs.surely_clear.Goals as goal
-
-pub clear-requires : goal.clear-requires
-clear-requires c =
-    let s = c.settle in
-    record {
-      onward = settled_onward s.auto.lines s.ensures;
-      ascending = settled_ascends s.auto.lines s.ensures;
-      lines_len_bound = (omega arith, omega arith);
-    }
 
 pub returns : goal.returns
 returns c = let s = c.settle in

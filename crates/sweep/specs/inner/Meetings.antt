@@ -1,5 +1,5 @@
 -- Meetings of two lines by how bad they are, and the worst meeting of two lines of a list.
-use Rattle.std.specs.Prelude.{◌≡◌, ◌⊎◌, List, ℕ, ◌≤◌, ◌<◌, get_or}
+use Rattle.std.specs.Prelude.{◌≡◌, ◌⊎◌, List, ℕ, ◌≤◌, ◌<◌, length, get_or}
 use Rattle.segment.specs.declared.Point.{Point}
 use Rattle.segment.specs.declared.meeting.Meeting.{Meeting}
 use Rattle.segment.specs.declared.meeting.Meeting.TheVariants.{Separate, SharedEnd, Crossing, Touching}
@@ -44,3 +44,7 @@ pub record Worst (n : ℕ) (l : List ℕ) (m : Meeting) : Type 0 where
 -- The worst meeting of two of n lines of a is that of two of b.
 pub record Seen (n : ℕ) (a b : List ℕ) : Type 0 where
   pub worst : (m : Meeting) → Worst n b m → Worst n a m
+
+-- There are no more lines than the check takes, and the lists to work in are as long.
+abbrev pub Room : List ℕ → List ℕ → List ℕ → Type 0
+Room lines scratch abreast = (length lines ≤ 4097) × (length lines ≤ length scratch) × (length lines ≤ length abreast)

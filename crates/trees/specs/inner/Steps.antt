@@ -1,7 +1,8 @@
 -- What the tests of the links and of the trees leave to the next one. No promise to a caller is here.
-use Rattle.std.specs.Prelude.{◌≡◌, Bool, true, false, not, ◌&&◌, ◌||◌, List, [], ◌∷◌, ◌++◌, ℕ, zero, suc, ◌+◌, ◌≤◌, ◌<◌, T, eqb, ltb, length, get_or, take}
+use Rattle.std.specs.Prelude.{◌≡◌, Option, MatchOption}
+use Rattle.std.specs.Prelude.{Bool, true, false, not, ◌||◌, List, [], ◌∷◌, ◌++◌, ℕ, zero, suc, ◌+◌, ◌≤◌, ◌<◌, T, eqb, ltb, length, get_or, take}
 use Rattle.table.specs.Lists.{any, member, count}
-use Rattle.table.specs.Table.{chain, Chained, root_of}
+use Rattle.table.specs.Table.{records, left_of, right_of, chain, Chained, root_of}
 use Rattle.table.specs.Tree.{tree_at, size}
 use Rattle.chains.specs.inner.Listing.{Shaped}
 use Rattle.table.specs.Trees.{links, named, roots, trees, nodes_of}
@@ -19,16 +20,15 @@ named_twice t = any (λ k. ltb 1 (named t k)) (chain t)
 unfoldable pub not_reached : List ℕ → Bool
 not_reached t = any (λ k. not (member k (nodes_of (trees t)))) (chain t)
 
--- The same as `starts_tree`, from a tally.
-unfoldable pub starts_by_tally : ℕ → List ℕ → ℕ → Bool
-starts_by_tally root tally k = not (eqb k root) && eqb (get_or tally k 0) 0
-
--- What a search for the roots answers: 0 if the head's root is named, or a node more than once; if not, how many they are, listed.
-pub record RootList (t : List ℕ) (n : ℕ) (list : List ℕ) : Type 0 where
-  pub ill : n ≡ 0 → not (eqb (named t (root_of t)) 0) || named_twice t ≡ true
-  pub well : (n ≡ 0 → ⊥) → not (eqb (named t (root_of t)) 0) || named_twice t ≡ false
+-- The roots are the first n numbers of list; the head's root is not named, and no node more than once.
+pub record Found (t : List ℕ) (n : ℕ) (list : List ℕ) : Type 0 where
+  pub well : not (eqb (named t (root_of t)) 0) || named_twice t ≡ false
   pub room : n ≤ length list
-  pub listed : (n ≡ 0 → ⊥) → take n list ≡ roots t
+  pub listed : take n list ≡ roots t
+
+-- What a search for the roots answers: how many they are, listed, or None if the head's root is named, or a node more than once.
+abbrev pub RootList : List ℕ → Option ℕ → List ℕ → Type 0
+RootList t r list = MatchOption r (not (eqb (named t (root_of t)) 0) || named_twice t ≡ true) (λ n. Found t n list)
 
 -- Refused with 5 at most, and only for a node that is not reached.
 pub record Rooted (t : List ℕ) : Type 0 where
@@ -57,6 +57,16 @@ pub record Filled (t : List ℕ) (ks sizes : List ℕ) : Type 0 where
   pub long : length sizes ≡ 4097
   pub sized : (k : ℕ) → T (member k ks) → get_or sizes k 0 ≡ size (tree_at t k)
   pub none : get_or sizes 0 0 ≡ 0
+
+-- The sizes of the subtrees at the children of node k are there, and their sum and one is that of its own subtree, which is no greater than 4,096.
+pub record Fillable (t : List ℕ) (k : ℕ) (sizes : List ℕ) : Type 0 where
+  pub long : length sizes ≡ 4097
+  pub inside : k < records t
+  pub room : records t ≤ 4097
+  pub left_room : left_of t k < 4097
+  pub right_room : right_of t k < 4097
+  pub sum : 1 + get_or sizes (left_of t k) 0 + get_or sizes (right_of t k) 0 ≡ size (tree_at t k)
+  pub few : size (tree_at t k) < 4097
 
 -- The first n numbers of order are the n nodes, breadth first.
 pub record Ordered (t : List ℕ) (n : ℕ) (order : List ℕ) : Type 0 where

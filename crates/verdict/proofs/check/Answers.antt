@@ -1,40 +1,16 @@
--- The refusal of the reading, or else the judgement. Rests on the laws of a listed chain.
-use mathlib.Core.Path.{◌≡◌, sym, ◌∙◌}
-use mathlib.Core.Logic.{inl, inr}
-use lib.ListN.{length}
-use Rattle.table.specs.Refusal.{refusal}
+-- The refusal of the reading, or else the judgement. Rests on the laws of an accepted table.
+use mathlib.Core.Path.{sym}
 use Rattle.records.proofs.Zeros.{blank}
 use Rattle.table.proofs.Accepted.{refusal_none}
-use Rattle.records.proofs.Nodes.{nodes_few, nodes_of_lem}
-use native.Mathlib.Omega.{arith}
-use borrow.Author.Rules.{rules}
 use Rattle.verdict.proofs.check.Goals as goal
 
-pub trace-reading-requires : goal.trace-reading-requires
-trace-reading-requires c = record {
-  chain_len = search rules;
-  blank = blank;
-}
+pub trace-requires : goal.trace-requires
+trace-requires c = record { blank = blank }
 
-pub returns-then-reading-ne0 : goal.returns-then-reading-ne0
-returns-then-reading-ne0 c = inl (
-  λ z. c.if-reading-ne0.true (c.trace-reading.ensures.refusal ∙ z),
-  c.trace-reading.ensures.refusal,
-)
+pub invariant_of-forest : goal.invariant_of-forest
+invariant_of-forest c =
+    let r = c.in_ok-count.ensures in
+    record { listed = record { accepted = ((refusal_none _ _).0 (sym r.refusal)).0; listed = r.accepted.listed } }
 
-pub judge-requires : goal.judge-requires
-judge-requires c =
-    let accepted : refusal c.args.table.now (length c.args.placements.now) ≡ 0 = sym c.trace-reading.ensures.refusal ∙ c.if-reading-ne0.false in
-    let r = c.trace-reading.ensures.accepted c.if-reading-ne0.false in
-    let a = (refusal_none c.args.table.now (length c.args.placements.now)).0 accepted in
-    let n = nodes_of_lem a.0 c.trace-reading.auto.chain r.nodes r.listed in
-    record {
-      nodes = n;
-      table_in_bounds = a.1;
-      nodes_in_bounds = omega (arith, nodes_few n);
-    }
-
-pub returns : goal.returns
-returns c =
-    let accepted : refusal c.args.table.now (length c.args.placements.now) ≡ 0 = sym c.trace-reading.ensures.refusal ∙ c.if-reading-ne0.false in
-    inr (accepted, c.judge.ensures)
+pub invariant_of-sheet : goal.invariant_of-sheet
+invariant_of-sheet c = record { placed = ((refusal_none _ _).0 (sym c.in_ok-count.ensures.refusal)).1 }

@@ -1,5 +1,5 @@
 -- What the steps of a check say to each other. No promise to a caller is here.
-use Rattle.std.specs.Prelude.{◌≡◌, ◌≢◌, List, [], ◌∷◌, ℕ, ◌+◌, ◌*◌, ◌≤◌, ◌<◌, T, length, get_or}
+use Rattle.std.specs.Prelude.{◌≡◌, ◌≢◌, List, [], ◌∷◌, ℕ, ◌*◌, ◌≤◌, ◌<◌, T, length, get_or}
 use Rattle.segment.specs.declared.Point.{Point}
 use Rattle.segment.specs.declared.meeting.Meeting.{Meeting}
 use Rattle.segment.specs.declared.meeting.Meeting.TheVariants.{Separate, SharedEnd, Crossing, Touching}
@@ -11,7 +11,6 @@ use Rattle.table.specs.Lists.{member}
 use Rattle.table.specs.Table.{Side, records, left_of, right_of, link_of, Line}
 use Rattle.table.specs.Trees.{roots}
 use Rattle.placements.specs.Placements.{point_of}
-use Rattle.parents.specs.inner.Parents.{above}
 use Rattle.verdict.specs.Conditions.{InOrder}
 use Rattle.verdict.specs.Verdict.{Condition, numbered}
 
@@ -19,23 +18,12 @@ use Rattle.verdict.specs.Verdict.{Condition, numbered}
 abbrev pub node_at : List ℕ → List ℕ → ℕ → Point
 node_at p nodes i = point_of p (get_or nodes i 0)
 
--- The first n nodes of a list, and what is above each, have their places among the placements.
-pub record AllPlaced (p nodes : List ℕ) (n : ℕ) (up : List ℕ) : Type 0 where
-  pub long : n ≤ length nodes
-  pub fits : (i : ℕ) → i < n → get_or nodes i 0 < length up
-  pub placed : (i : ℕ) → i < n → 2 * get_or nodes i 0 + 1 < length p
-  pub placed_above : (i : ℕ) → i < n → 2 * above up (get_or nodes i 0) + 1 < length p
-
--- The first n lines go to these nodes, from what is above each.
-pub record LinesFromAbove (p nodes : List ℕ) (n : ℕ) (up l : List ℕ) : Type 0 where
-  pub starts : (i : ℕ) → i < n → start_of (get_or l i 0) ≡ point_of p (above up (get_or nodes i 0))
-  pub ends : (i : ℕ) → i < n → end_of (get_or l i 0) ≡ node_at p nodes i
-
--- The first n lines go to the first n nodes of a list: to a child from its parent, to a root from itself.
-pub record LinesOf (t p : List ℕ) (n : ℕ) (nodes l : List ℕ) : Type 0 where
-  pub ends : (i : ℕ) → i < n → end_of (get_or l i 0) ≡ node_at p nodes i
-  pub from_parent : (i k : ℕ) (s : Side) → i < n → Line t k s (get_or nodes i 0) → start_of (get_or l i 0) ≡ point_of p k
-  pub from_itself : (i : ℕ) → i < n → T (member (get_or nodes i 0) (roots t)) → start_of (get_or l i 0) ≡ node_at p nodes i
+-- There is a line for each node of a list, and it goes to it: to a child from its parent, to a root from itself.
+pub record LinesOf (t p nodes l : List ℕ) : Type 0 where
+  pub long : length l ≡ length nodes
+  pub ends : (i : ℕ) → i < length nodes → end_of (get_or l i 0) ≡ node_at p nodes i
+  pub from_parent : (i k : ℕ) (s : Side) → i < length nodes → Line t k s (get_or nodes i 0) → start_of (get_or l i 0) ≡ point_of p k
+  pub from_itself : (i : ℕ) → i < length nodes → T (member (get_or nodes i 0) (roots t)) → start_of (get_or l i 0) ≡ node_at p nodes i
 
 -- 22, of one line: it ends above its start
 abbrev pub Rises : ℕ → Type 0

@@ -1,41 +1,39 @@
 -- `draw_wide` meets its contract: the whole answer, for all bytes and placements.
-use mathlib.Core.Path.{refl, sym, ◌∙◌}
+use mathlib.Core.Path.{sym, ◌∙◌}
+use native.Mathlib.Omega.{arith}
 use Rattle.records.proofs.Zeros.{blank}
 use Rattle.table.proofs.Accepted.{some_root}
 use Rattle.drawing.proofs.Whole.{sizes_listed, roots_lead, read_accepted}
 use Rattle.wide.proofs.Answered.{wide_refused, wide_nothing, wide_answered}
 use Rattle.wide.proofs.draw_wide.Goals as goal
 
-pub read-reading-requires : goal.read-reading-requires
-read-reading-requires c = record {
-  chain_len = (refl, refl);
-  blank = blank;
-}
+pub read-requires : goal.read-requires
+read-requires c = record { blank = blank }
 
-pub returns-then-reading-ne0 : goal.returns-then-reading-ne0
-returns-then-reading-ne0 c =
-    wide_refused _ _ _ c.read-reading.ensures.refusal c.if-reading-ne0.true
+pub returns-in_err-nodes : goal.returns-in_err-nodes
+returns-in_err-nodes c = wide_refused _ _ _ _ c.from_residual.ensures.1 c.in_err-nodes.ensures.refusal
 
-pub returns-then-reading-eq0 : goal.returns-then-reading-eq0
-returns-then-reading-eq0 c =
-    let e = c.if-reading-ne0.false in
-    wide_nothing _ _ (sym c.read-reading.ensures.refusal ∙ e) (read_accepted _ _ _ _ _ _ c.read-reading.ensures e).0
-    (sym (c.read-reading.ensures.accepted e).traced.nodes ∙ c.if-reading-eq0.true)
+pub returns-then-nodes-eq0 : goal.returns-then-nodes-eq0
+returns-then-nodes-eq0 c =
+    let d = c.in_ok-nodes.ensures in
+    wide_nothing _ _ (sym d.refusal) (read_accepted _ _ _ _ _ _ d).0 (sym d.accepted.traced.nodes ∙ c.if-nodes-eq0.true)
 
-pub wide_plan-plan-requires : goal.wide_plan-plan-requires
-wide_plan-plan-requires c =
-    let e = c.if-reading-ne0.false in
-    let ok = read_accepted _ _ _ _ _ _ c.read-reading.ensures e in
-    let l = c.read-reading.ensures.accepted e in record {
-      table_value = ok.0;
-      chained = some_root _ ok.0 _ l.traced.nodes c.if-reading-eq0.false;
-      sized = sizes_listed _ _ _ _ _ l c.read-reading.auto.sizes;
-      led = roots_lead _ _ _ _ l.traced c.if-reading-eq0.false;
-      chain_len = (c.read-reading.auto.chain, l.traced.listed);
-      table_in_bounds = ok.1;
-      nodes_value = l.traced.nodes;
+pub invariant_of-subtrees : goal.invariant_of-subtrees
+invariant_of-subtrees c =
+    let d = c.in_ok-nodes.ensures in record {
+      sound = (read_accepted _ _ _ _ _ _ d).0;
+      sized = sizes_listed _ _ _ _ _ d.accepted (omega arith);
     }
 
+pub wide_plan-plan-requires-clause-chained : goal.wide_plan-plan-requires-clause-chained
+wide_plan-plan-requires-clause-chained c =
+    let d = c.in_ok-nodes.ensures in some_root _ (read_accepted _ _ _ _ _ _ d).0 _ d.accepted.traced.nodes c.if-nodes-eq0.false
+
+pub wide_plan-plan-requires-clause-led : goal.wide_plan-plan-requires-clause-led
+wide_plan-plan-requires-clause-led c = roots_lead _ _ _ _ c.in_ok-nodes.ensures.accepted.traced c.if-nodes-eq0.false
+
+pub wide_plan-plan-requires-clause-table_in_bounds : goal.wide_plan-plan-requires-clause-table_in_bounds
+wide_plan-plan-requires-clause-table_in_bounds c = (read_accepted _ _ _ _ _ _ c.in_ok-nodes.ensures).1
+
 pub returns : goal.returns
-returns c =
-    wide_answered _ _ (sym c.read-reading.ensures.refusal ∙ c.if-reading-ne0.false) _ _ c.wide_plan-plan.ensures
+returns c = wide_answered _ _ (sym c.in_ok-nodes.ensures.refusal) _ _ c.wide_plan-plan.ensures

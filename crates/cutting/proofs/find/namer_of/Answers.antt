@@ -1,36 +1,29 @@
--- `namer_of` answers the chained record whose word names a record. The loop keeps that none of those passed does.
-use mathlib.Core.Path.{sym, ◌∙◌}
+-- `namer_of` answers the chained record whose word names a record.
+use mathlib.Core.Path.{◌∙◌}
+use Prim.Native.Nat.{◌<◌}
 use native.Mathlib.Omega.{arith}
-use borrow.Author.Count.{below_none, below_more}
-use Rattle.table.proofs.Accepted.{records_bounds}
+use borrow.Author.Rules.{rules}
+use borrow.Author.Tests.{tests}
+use lib.Dec.{eqb}
+use Rattle.std.proofs.lemmas.List.{get_or_read}
+use Rattle.std.proofs.lemmas.Iterator.{YieldsList-from_slice}
+use Rattle.std.proofs.lemmas.Iterator.Adapters.{serves_from_places}
+use Rattle.std.proofs.lemmas.Iterator.Consumers.{YieldsList-from_copied}
+use Rattle.std.proofs.lemmas.Iterator.Search.{find_from_yields_List}
+use Rattle.table.specs.Table.{records, word}
 use Rattle.records.proofs.Nodes.{node_below}
-use Rattle.cutting.proofs.Finding.{namer_here, namer_none}
+use Rattle.cutting.proofs.Finding.{found_namer}
+use Rattle.cutting.proofs.Hooks.{namer_inside}
 use Rattle.cutting.proofs.find.namer_of.Goals as goal
 
-pub loop-i-init : goal.loop-i-init
-loop-i-init c = (omega arith, below_none _)
-
-pub overflow_cast-m : goal.overflow_cast-m
-overflow_cast-m c = omega (arith, c.shared_slice_known-in-loop-i-1.given c.loop-i.i)
-
-pub word-requires : goal.word-requires
-word-requires c = (
-  node_below c.requires.nodes _ c.loop-i-test.true,
-  c.requires.j_bound,
-)
-
-pub returns-then-word-k : goal.returns-then-word-k
-returns-then-word-k c = (
-  namer_here c.requires.nodes _ _ _ c.loop-i-test.true (sym c.word.ensures.0 ∙ c.if-word-k.true) c.loop-i.invariant.1,
-  node_below c.requires.nodes
-      _ c.loop-i-test.true,
-)
-
-pub loop-i-preserved : goal.loop-i-preserved
-loop-i-preserved c = (omega arith, below_more _ _ c.loop-i.invariant.1 (λ e. c.if-word-k.false (c.word.ensures.0 ∙ e)))
+pub find-namer-requires-clause-callable : goal.find-namer-requires-clause-callable
+find-namer-requires-clause-callable c =
+    serves_from_places (YieldsList-from_copied (YieldsList-from_slice c.args.forest.nodes.now (search rules))) (λ x q k. search rules)
+    (λ x k h e. let below : x < records c.args.forest.table.now = omega (arith, node_below c.args.forest.listed k h, get_or_read _ _ _ h e 0) in search rules)
 
 pub returns : goal.returns
-returns c = (
-  namer_none c.requires.nodes _ _ (λ m h. c.loop-i.invariant.1 m (omega arith)),
-  (records_bounds _ c.requires.nodes.accepted).0,
-)
+returns c =
+    let found = find_from_yields_List (λ m. eqb (word c.args.forest.table.now m c.args.j) c.args.k) _ _ c.find-namer.result c.find-namer.ensures.ran
+    (YieldsList-from_copied (YieldsList-from_slice c.args.forest.nodes.now (search rules))) (λ x b q k. search (rules, tests)) in
+    let named = c.from.ensures ∙ c.unwrap_or.ensures ∙ found_namer c.args.forest.listed c.args.j c.args.k c.find-namer.result found in
+    (named, rw named (namer_inside _ _ _ c.args.forest.listed.accepted))

@@ -1,44 +1,26 @@
 -- What is left of the number from here gives the same line as the number from the start. Rests on Passing.
-use mathlib.Core.Path.{◌≡◌, sym, ap, ◌∙◌}
+use mathlib.Core.Path.{sym, ap, ◌∙◌}
 use mathlib.Core.List.{List}
-use Prim.Native.Nat.{◌+◌}
-use native.Mathlib.Omega.{arith}
-use lib.ListN.{drop}
-use borrow.Author.Rules.{rules}
-use Rattle.table.specs.Table.{chain as chainOf}
-use Rattle.records.proofs.Scan.{taken_at}
+use Prim.Native.Nat.{ℕ}
+use Rattle.std.specs.declared.ops.ControlFlow.TheVariants.{Continue, Break}
 use Rattle.records.proofs.Nodes.{node_below}
-use Rattle.pen.specs.declared.lines.Ends.{Ends}
-use Rattle.pen.specs.declared.lines.Step.{Step}
-use Rattle.pen.specs.Lines.{lines_from, lines, line_at}
-use Rattle.pen.specs.inner.Steps.{after}
+use Rattle.pen.specs.Lines.{lines_from, line_at}
 use Rattle.pen.proofs.Passing.{past_last, moves}
 use Rattle.pen.proofs.lines.line.Goals as goal
 
-pub around-step-requires : goal.around-step-requires
-around-step-requires c =
-    rw c.index.ensures (node_below c.requires c.loop-i.i c.loop-i-test.true)
+pub loop-node-init : goal.loop-node-init
+loop-node-init c = ap (λ (ks : List ℕ). line_at (lines_from c.args.forest.table.now ks) c.args.number) c.args.forest.listed.listed
 
-pub returns-in-Here : goal.returns-in-Here
-returns-in-Here c =
-    let Rest : List Ends = let s = c.args in
-    lines_from s.table.now (drop (c.loop-i.i + 1) (chainOf s.table.now)) in
-    let left_after : let s = c.args in after c.around-step.result (Rest) ≡ line_at (lines s.table.now) s.number = let n = c.requires in
-    moves _ (chainOf c.args.table.now) c.loop-i.i c.index.result _ c.around-step.result (omega (arith, n.nodes))
-    (taken_at _ n.nodes n.listed c.loop-i.i c.loop-i-test.true ∙ sym c.index.ensures)
-    c.around-step.ensures c.loop-i.invariant.1 in
-    ap (λ (r : Step). after r (Rest)) (sym c.in-Here.is) ∙ left_after
+pub around-requires : goal.around-requires
+around-requires c = rw c.from.ensures (node_below c.args.forest.listed _ c.loop-node-test.true)
 
-pub loop-i-preserved : goal.loop-i-preserved
-loop-i-preserved c =
-    let Rest : List Ends = let s = c.args in
-    lines_from s.table.now (drop (c.loop-i.i + 1) (chainOf s.table.now)) in
-    let left_after : let s = c.args in after c.around-step.result (Rest) ≡ line_at (lines s.table.now) s.number = let n = c.requires in
-    moves _ (chainOf c.args.table.now) c.loop-i.i c.index.result _ c.around-step.result (omega (arith, n.nodes))
-    (taken_at _ n.nodes n.listed c.loop-i.i c.loop-i-test.true ∙ sym c.index.ensures)
-    c.around-step.ensures c.loop-i.invariant.1 in
-    (search rules, ap (λ (r : Step). after r (Rest)) (sym c.in-Past.is) ∙ left_after)
+pub returns-in-Break : goal.returns-in-Break
+returns-in-Break c =
+    moves _ _ _ _ _ (Break c.in-Break.ends) c.loop-node-test.true (sym c.from.ensures) c.in-Break.ensures c.loop-node.invariant
+
+pub loop-node-preserved : goal.loop-node-preserved
+loop-node-preserved c =
+    moves _ _ _ _ _ (Continue c.in-Continue.left_over) c.loop-node-test.true (sym c.from.ensures) c.in-Continue.ensures c.loop-node.invariant
 
 pub returns : goal.returns
-returns c =
-    sym (past_last _ (chainOf c.args.table.now) c.loop-i.i _ (omega (arith, c.requires.nodes))) ∙ c.loop-i.invariant.1
+returns c = sym (past_last _ _ _ _ c.loop-node-test.false) ∙ c.loop-node.invariant

@@ -6,4 +6,4 @@ use Rattle.pen.proofs.points.quarter.Goals as goal
 
 pub returns : goal.returns
 unfolding of_bits
-returns c = quartered c.args.product (omega arith)
+returns c = rw c.from.ensures (quartered c.args.product (omega arith))

@@ -12,10 +12,10 @@ use Rattle.roles.proofs.choosing.choose_roles.Given as goal
 
 abbrev pub invariant-loop-at : goal.invariant-loop-at
 invariant-loop-at l =
-    Named l.table l.at
+    Named l.subtrees.table.now l.at
     × ((length l.roles ≡ 4097)
-    × (with_after (hand_of l.role) (role_of l.role) (spine_on (side_of l.mirrored) (tree_at l.table l.at)) l.roles
-    ≡ with_after (hand_of l.initial.role) (role_of l.initial.role) (spine_on (side_of l.mirrored) (tree_at l.table l.initial.at)) l.initial.roles))
+    × (with_after (hand_of l.role) (role_of l.role) (spine_on (side_of l.side) (tree_at l.subtrees.table.now l.at)) l.roles
+    ≡ with_after (hand_of l.initial.role) (role_of l.initial.role) (spine_on (side_of l.side) (tree_at l.subtrees.table.now l.initial.at)) l.initial.roles))
 
 abbrev pub decreases-loop-at : goal.decreases-loop-at
-decreases-loop-at l = size (tree_at l.table l.at)
+decreases-loop-at l = size (tree_at l.subtrees.table.now l.at)

@@ -2,7 +2,7 @@
 use mathlib.Core.Path.{◌≡◌}
 use mathlib.Core.Bool.{Bool, false, ◌||◌}
 use mathlib.Core.List.{List}
-use Prim.Native.Nat.{ℕ, ◌-◌, ◌≤◌, ◌<◌}
+use Prim.Native.Nat.{ℕ, ◌<◌}
 use lib.ListN.{get_or, take}
 use Rattle.table.specs.Table.{left_of, right_of}
 use Rattle.table.specs.Trees.{links}
@@ -13,9 +13,8 @@ use Rattle.trees.proofs.links.strays.Given as goal
 abbrev pub strayed : List ℕ → ℕ → Bool
 strayed t k = stray t (left_of t k) || stray t (right_of t k)
 
-abbrev pub invariant-loop-i : goal.invariant-loop-i
-invariant-loop-i l =
-    (l.i ≤ l.nodes) × ((j : ℕ) → j < l.i → strayed l.table (get_or l.chain j 0) ≡ false) × Counts (links l.table (take l.i l.chain)) l.tally
-
-abbrev pub decreases-loop-i : goal.decreases-loop-i
-decreases-loop-i l = l.nodes - l.i
+abbrev pub invariant-loop-node : goal.invariant-loop-node
+invariant-loop-node l = record {
+  passed : (j : ℕ) → j < l.node-index → strayed l.table (get_or l.chain j 0) ≡ false;
+  counted : Counts (links l.table (take l.node-index l.chain)) l.tally;
+}

@@ -1,14 +1,36 @@
--- `list_roots` lists the roots, the head's first.
-use mathlib.Core.Path.{◌∙◌}
+-- `list_roots` lists the roots. The loop keeps `Noting`.
 use native.Mathlib.Omega.{arith}
-use lib.ListN.{length-set}
-use lib.Seq.{take-suc-set}
+use Rattle.trees.proofs.Roots.{note_start, note_end, note_root, note_head, note_child}
 use Rattle.trees.proofs.naming.list_roots.Goals as goal
+use Rattle.trees.proofs.naming.list_roots.Goals.{then-k-root+then-tally-k-eq0, else-k-root}
+use Rattle.trees.proofs.naming.list_roots.Goals.{else-k-root-via-then-k-root+else-tally-k-eq0, else-k-root-via-else-k-root}
 
-pub list_others-requires-clause-roots_len : goal.list_others-requires-clause-roots_len
-list_others-requires-clause-roots_len c =
-    (length-set c.args.roots.now 0 _ ∙ c.requires.roots_len, take-suc-set c.args.roots.now 0 _ (omega (arith, c.requires.roots_len)))
+pub loop-node-init : goal.loop-node-init
+loop-node-init c =
+    let r = c.requires in
+    note_start _ _ r.listed _ r.root_value _ r.tallied _ (omega arith)
 
-pub shape_of-roots : goal.shape_of-roots
-shape_of-roots c =
-    c.list_others.auto.roots ∙ length-set c.args.roots.now 0 _
+pub loop-node-preserved : goal.loop-node-preserved
+loop-node-preserved c =
+    let r = c.requires in
+    elim c.if-k-root.branch [
+      | then-k-root+then-tally-k-eq0 w ↦
+          rw (w.roots-is, w.count-is)
+          (note_root _ _ r.listed _ r.root_value _ r.tallied _ c.loop-node-test.true _ c.from-k.ensures _ _ c.loop-node.invariant (omega arith)
+          w.if-k-root.true w.if-tally-k-eq0.true)
+      | else-k-root w ↦
+          rw (w.roots-is, w.count-is)
+          elim w.else-k-root.branch [
+            | else-k-root-via-then-k-root+else-tally-k-eq0 v ↦
+                note_child _ _ r.listed _ r.root_value _ r.tallied _ c.loop-node-test.true _ c.from-k.ensures _ _ c.loop-node.invariant
+                (omega arith) v.if-tally-k-eq0.false
+            | else-k-root-via-else-k-root v ↦
+                note_head _ _ r.listed _ r.root_value _ r.tallied _ c.loop-node-test.true _ c.from-k.ensures _ _ c.loop-node.invariant
+                (omega arith) v.if-k-root.false
+          ]
+    ]
+
+pub returns : goal.returns
+returns c =
+    let r = c.requires in
+    note_end _ _ r.listed _ r.root_value _ r.tallied r.root_bound (omega arith) _ _ _ c.loop-node.invariant (omega arith)

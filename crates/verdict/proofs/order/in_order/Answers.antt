@@ -1,4 +1,4 @@
--- `in_order`: the columns, or the sign of the cross product, read back as it was given. Rests on Turning.
+-- `in_order`: the columns, or the sign of the cross product. Rests on Turning.
 use mathlib.Core.Path.{refl, ◌∙◌}
 use mir.Syntax.{w64}
 use borrow.Author.Tests.{lt-ltb, le-ltb}

@@ -25,4 +25,4 @@ pub returns : goal.returns
 returns c =
     let r = c.sort in
     first_moved r.ensures.moved r.auto.keys (worst_first c.worst_meeting.result (fails c.if-same_end.false c.same_end.ensures)
-    (fails c.if-rises.false c.rises.ensures) c.worst_meeting.ensures c.worst_verdict.ensures)
+    (fails c.if-rises.false c.rises.ensures) c.worst_meeting.ensures c.fault_of.ensures)

@@ -1,2 +1,0 @@
--- What the program prints is in the crate `text`.
-pub mod inner

@@ -1,0 +1,6 @@
+-- `list_roots` lists the roots. The loop keeps `Noting`.
+use Rattle.trees.proofs.Roots.{Noting}
+use Rattle.trees.proofs.naming.list_roots.Given as goal
+
+abbrev pub invariant-loop-node : goal.invariant-loop-node
+invariant-loop-node l = Noting l.table l.chain l.roots l.count l.node-index

@@ -1,9 +1,0 @@
--- `put_numbers` is safe and ends: the measure is what is left of the numbers.
-use Rattle.std.proofs.Common.{◌-◌, ◌≤◌, length}
-use Rattle.trials.proofs.text.put_numbers.Given as goal
-
-abbrev pub invariant-loop-i : goal.invariant-loop-i
-invariant-loop-i g l = l.i ≤ length l.numbers
-
-abbrev pub decreases-loop-i : goal.decreases-loop-i
-decreases-loop-i g l = length l.numbers - l.i

@@ -1,9 +1,0 @@
--- `put_words` is safe and ends: a record has four words.
-use Rattle.std.proofs.Common.{◌-◌, ◌≤◌}
-use Rattle.trials.proofs.text.put_words.Given as goal
-
-abbrev pub invariant-loop-i : goal.invariant-loop-i
-invariant-loop-i g l = l.i ≤ 4
-
-abbrev pub decreases-loop-i : goal.decreases-loop-i
-decreases-loop-i g l = 4 - l.i
