@@ -43,8 +43,8 @@ fn wide_plan(subtrees: Subtrees<'_>, nodes: &[u16], order: &[u16], placements: &
     }
 }
 
-// Draws the wide plan of a table, or answers why it is refused, and places its nodes. All placements are kept on a refusal. It reads as `drawing::draw`
-// does: one function for both would take the drawing as a closure over four lent lists, and be no plainer.
+// Draws the wide plan of a table, or answers why it is refused, and places its nodes. All placements are kept on a refusal. It reads as
+// `drawing::try_draw` does: one function for both would take the drawing as a closure over four lent lists, and be no plainer.
 // Promised beyond this contract (promises/specs/Promises): `WideIsGood`, `AtMost37`, `WideRootsBeside`, `WideKeepsOthers`, `OffChainWide`,
 // `WidePlanAsBefore`.
 pub fn draw_wide(table: &[u8], placements: &mut [u16]) -> Result<Plan, Refusal>
