@@ -35,7 +35,7 @@ module _ (t : List ℕ) (parent side tag : ℕ) where
   -- A refusal of the first call, passed on.
   module _ (e : Refusal) (r : Result Unit Refusal) (p : IsErrAnd r (λ x. x ≡ e)) (says : said (Err e) ≡ hang_says t parent side) where
     pub refused : refused_by r ≡ hang_refusal t parent side
-    refused = rw (passed_on r e p) (refused_said t parent side e says)
+    refused = rw (passed_on r e p) (refused_said t parent side e says).0
 
     pub unhung : (u : List ℕ) → u ≡ after_hang t parent side tag → u ≡ t
-    unhung u left = left ∙ sym (refused_kept t parent side tag e says)
+    unhung u left = left ∙ sym (refused_kept t parent side tag e says).1

@@ -73,13 +73,15 @@ fn draw_trees(
             widest,
             points: placements,
         };
-        top = spines.draw_left(root, 0, top);
+        top = spines.draw_tree(root, top);
         unplaced -= usize::from(subtrees.sizes[root]);
     }
     Extent { width, height: top }
 }
 
 // The plan of an accepted table that has nodes. A list is lent for the roles. Order and nodes stand apart, as the clauses `led` and `nodes_value` have them.
+// Compiled apart, so that its list for W lies on no stack while a table is read, which takes the most.
+#[inline(never)]
 pub fn plan_of(
     subtrees: Subtrees<'_>,
     order: &[u16],

@@ -174,7 +174,7 @@ impl Spines<'_> {
     // 004, Step 3(a) to (c); 01, step 3: a drawing on the left side, by these same steps. Answers the first row below it. It and the next are two functions,
     // since document 01 asks for a left-side and a right-side drawing that call each other through the hung subtrees.
     #[cycle(spines)]
-    pub fn draw_left(&mut self, root: usize, edge: usize, top: usize) -> usize
+    fn draw_left(&mut self, root: usize, edge: usize, top: usize) -> usize
         requires drawable { Drawable self.old.subtrees.table.now self.old.roles.now self.old.widest.now left root edge 0 top }
         requires root_nonzero { 0 < root }
         ensures kept { Kept self.old self.new }
@@ -211,5 +211,26 @@ impl Spines<'_> {
             Side::Left => self.draw_left(child, edge, top),
             Side::Right => self.draw_right(child, edge, top),
         }
+    }
+
+    // 004, Step 5; 01, step 1: the drawing of a whole tree, 0 for none, on the left side, from column 0 on and the given row on, by the roles of its spines.
+    // Answers the first row below it. It enters where hung subtrees do, by a walk with nothing done, so that the steps of a walk are compiled into one loop
+    // and no walk is passed through memory: if it called `draw_left`, that would have two callers, and the steps would be compiled apart.
+    pub fn draw_tree(&mut self, root: usize, top: usize) -> usize
+        requires drawable { Drawable self.old.subtrees.table.now self.old.roles.now self.old.widest.now left root 0 0 top }
+        ensures kept { Kept self.old self.new }
+        ensures drawn { SubtreeDrawn self.old.subtrees.table.now left root 0 top self.old.points.now result self.new.points.now }
+    {
+        let walk = Walk {
+            at: 0,
+            row: 0,
+            lowest: 0,
+            pending: 0,
+            hand: Side::Left,
+            edge: 0,
+            widest: 0,
+            side: Side::Left,
+        };
+        self.draw_hung(walk, root, 0, top)
     }
 }

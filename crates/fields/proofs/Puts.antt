@@ -37,8 +37,8 @@ pub paste_sets : (w l : List ℕ) (i : ℕ) → i + length w ≤ length l → pa
 paste_sets w l i h = rw (sets-eq w l i h, take_all (length w) w (omega arith))
 
 -- A number, digit by digit.
-pub put_one : {n : ℕ} {a b : Writer} → n < 10 → Put ((48 + n % 10) ∷ []) a b → Put (decimal n) a b
-put_one {n} h p = let e : n % 10 ≡ n = omega arith in rw (decimal_one n h) (rw e at p)
+pub put_one : {n : ℕ} {a b : Writer} → n < 10 → Put ((48 + n) ∷ []) a b → Put (decimal n) a b
+put_one {n} h p = rw (decimal_one n h) p
 
 pub put_more : {n : ℕ} {a b c : Writer} → 10 ≤ n → Put (decimal (n / 10)) a b → Put ((48 + n % 10) ∷ []) b c → Put (decimal n) a c
 put_more {n} h p q = rw (decimal_more n h) (put_then p q)

@@ -1,7 +1,7 @@
 // Words and numbers written into a lent buffer, one behind the other.
 #![tactic(auto)]
 
-ghost use Rattle.std.specs.Prelude.{◌≡◌, [], ◌∷◌, ◌+◌, ◌*◌, ◌≤◌, length};
+ghost use Rattle.std.specs.Prelude.{◌≡◌, [], ◌∷◌, ◌+◌, ◌*◌, ◌<◌, ◌≤◌, length};
 ghost use Rattle.fields.specs.Fields.{decimal, fields};
 ghost use Rattle.fields.specs.inner.Put.{HasRoom, Put};
 
@@ -39,16 +39,26 @@ impl<'a> Writer<'a> {
         self.at = end;
     }
 
-    // By hand, since std's `write!` promises no byte of what it leaves in a lent slice. A last digit is below 10: a `try_from` could not fail and would be
-    // no plainer than the cast.
+    // A digit is below 10: a `try_from` could not fail and would be no plainer than the cast.
+    fn put_digit(&mut self, digit: u16)
+        requires below_ten { digit < 10 }
+        requires room { HasRoom 1 self.old }
+        ensures { Put ((48 + digit) ∷ []) self.old self.new }
+    {
+        self.put_byte(b'0' + digit as u8);
+    }
+
+    // By hand, since std's `write!` promises no byte of what it leaves in a lent slice. The first digit returns early: it is written without a frame.
     pub fn put_decimal(&mut self, n: u16)
         requires { HasRoom (length (decimal n)) self.old }
         ensures { Put (decimal n) self.old self.new }
     {
-        if 10 <= n {
-            self.put_decimal(n / 10);
+        if n < 10 {
+            self.put_digit(n);
+            return;
         }
-        self.put_byte(b'0' + (n % 10) as u8);
+        self.put_decimal(n / 10);
+        self.put_digit(n % 10);
     }
 
     // The numbers that follow the first word of a line, each behind a space, and the end of the line.

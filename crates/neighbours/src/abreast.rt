@@ -20,11 +20,7 @@ pub struct Front<'a> {
 
 // Is a line to the right of the point at a level, or does it end there? Lines come in from right to left.
 fn right_of_point(line: u64, level: u64) -> bool {
-    let d = cross(start(line), end(line), start(level));
-    if d == 0 {
-        return first(line) != level;
-    }
-    0 < d
+    first(line) != level && 0 <= cross(start(line), end(line), start(level))
 }
 
 // Puts a place in the stead of the elements from `from` to before `to`, of m: `Replaced` speaks of each, so no range. Where one goes out, none moves.

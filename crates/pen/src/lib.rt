@@ -35,6 +35,9 @@ pub fn stroke(
         table,
         nodes: &chain[..count],
     };
-    let ends = line(forest, number / 2);
-    Ok(ends.map(|ends| choose(placements, pitch, ends, number)))
+    // A return of its own and no `map`: past the last line a wrong answer can be tried (must-fail/done_refused).
+    let Some(ends) = line(forest, number / 2) else {
+        return Ok(None);
+    };
+    Ok(Some(choose(placements, pitch, ends, number)))
 }

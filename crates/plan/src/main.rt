@@ -22,13 +22,14 @@ fn read_all(input: &mut impl Read, buffer: &mut [u8]) -> io::Result<usize>
 }
 
 // The buffer is longer than any table, so that a longer input is refused for its length. What cannot be said on standard error is not said.
+// Both buffers stand before the reading: one that stands behind it is cleared at entry too, and so twice.
 fn main(rt: HostRuntime) {
     let mut table = [0u8; 32784];
+    let mut out = [0u8; text::ROOM];
     let Ok(n) = read_all(&mut rt.reader(), &mut table) else {
         let _ = eprintln!(rt; "plan: cannot read standard input");
         return;
     };
-    let mut out = [0u8; text::ROOM];
     let length = text::write_text(&table[..n], &mut out);
     if rt.write_all(&out[..length]).is_err() {
         let _ = eprintln!(rt; "plan: cannot write standard output");

@@ -66,6 +66,21 @@ ordinary_runs a f r h o (inr e) = record { hand = h; role = λ k S st. o ∙ sym
 pub switch_runs : (a : Side) (f : Fork) (r : Role) → hand_of r ≡ a → role_of r ≡ switch → (f.hung ≡ 0 → ⊥) → side_of f.side ≡ a → Runs a f r
 switch_runs a f r h o n e = record { hand = h; role = λ k S st. o ∙ sym (rw e (run_near a k S (λ i. n (st.1 i)))) }
 
+-- The same by what the program tests.
+pub bare_runs : (a : Side) (f : Fork) (r : Role) → hand_of r ≡ a → role_of r ≡ ordinary → f.hung ≡ 0 → Runs a f r
+bare_runs a f r h o e = ordinary_runs a f r h o (inl e)
+
+pub far_runs : (a : Side) (f : Fork) (r : Role) → hand_of r ≡ a → role_of r ≡ ordinary → far a (side_of f.side) ≡ true → Runs a f r
+far_runs a f r h o e = ordinary_runs a f r h o (inr (far_other a (side_of f.side) e))
+
+pub near_runs : (a : Side) (f : Fork) (r : Role) → hand_of r ≡ a → role_of r ≡ switch → (f.hung ≡ 0 → ⊥) → far a (side_of f.side) ≡ false → Runs a f r
+near_runs a f r h o n e = switch_runs a f r h o n (near_same a (side_of f.side) e)
+
+pub opposite_twice : (a : Side) → opposite (opposite a) ≡ a
+unfolding opposite
+opposite_twice left = refl
+opposite_twice right = refl
+
 -- The role after a switch, and after any other role.
 pub switch_is : (o : LayoutRole) → is_switch o ≡ true → o ≡ switch
 switch_is knee e = cc

@@ -41,14 +41,19 @@ fn switch_on(hand: Side) -> Role
     }
 }
 
-// 004, Step 3(a), (b) and (d); 01, steps 2 and 7: after a knee or an ordinary node, a switch where a child hangs on the hand's own side.
+// 004, Step 3(a), (b) and (d); 01, steps 2 and 7: after a knee or an ordinary node, a switch where a child hangs on the hand's own side. Each case has a line
+// of its own, where a wrong role can be tried (must-fail/switch_without_child).
+#[tactic(auto, using(crate::proofs::Choices::near_runs, crate::proofs::Choices::far_runs))]
 fn run_on(hand: Side, fork: Fork) -> Role
     ensures { Runs (side_of hand) fork result }
 {
-    if fork.hung == 0 || fork.side.is_far(hand) {
+    if fork.hung == 0 {
         return ordinary_on(hand);
     }
-    switch_on(hand)
+    if !fork.side.is_far(hand) {
+        return switch_on(hand);
+    }
+    ordinary_on(hand)
 }
 
 // 004, Step 3; 01, steps 2 and 7: the role of the spine node after one of role `before`.

@@ -21,6 +21,7 @@ impl Side {
     }
 
     // 004, Step 6(d); 01, step 7: whether what hangs on this side is on the far side of a hand, which for the left hand is the right.
+    #[tactic(auto, using(crate::proofs::Choices::far_apart))]
     pub fn is_far(self, hand: Side) -> bool
         ensures { result ≡ far (side_of hand) (side_of self) }
     {

@@ -84,19 +84,19 @@ module _ (t list : List ℕ) (l : Listed t (chain t) list) (root : ℕ) (e : roo
       next = ap (select (starts_tree t)) (rw add-one (take-suc list i 0 h)) ∙ select_append (starts_tree t) (take i list) (get_or list i 0 ∷ [])
 
       -- A root.
-      pub note_root : (k ≡ root → ⊥) → get_or tally k 0 ≡ 0 → Noting t list (set found count (get_or list i 0)) (count + 1) (i + 1)
+      pub note_root : (k ≡ root → ⊥) → get_or tally k 0 ≡ 0 → Noting t list (set found count k) (count + 1) (i + 1)
       unfolding starts_tree
       note_root n d =
           let passes : starts_tree t (get_or list i 0) ≡ true =
           rw (ne_eqb (get_or list i 0) (root_of t) (λ q. n (p ∙ q ∙ sym e)), eq-eqb (named t (get_or list i 0)) 0 (sym tallied ∙ d)) in
-          record {
+          rw p (record {
             once = once_more;
             listed = rw add-one (take-suc-set found count (get_or list i 0) (omega (arith, g.few, g.long, nodes_few)))
                 ∙ ap (λ (ks : List ℕ). ks ++ (get_or list i 0 ∷ [])) g.listed
                 ∙ ap (λ (ks : List ℕ). root_of t ∷ ks) (sym (next ∙ ap (λ (ks : List ℕ). select (starts_tree t) (take i list) ++ ks) (select_one _ _ passes)));
             few = omega (arith, g.few);
             long = simp length-set g.long;
-          }
+          })
 
       -- Another node.
       other : starts_tree t (get_or list i 0) ≡ false → Noting t list found count (i + 1)

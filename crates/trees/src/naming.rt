@@ -35,16 +35,17 @@ pub fn list_roots(
     if tally[root] != 0 {
         return None;
     }
-    // It fits: `u16::try_from`, with an unwrap that cannot fail, is no plainer.
+    // Both numbers that are cast fit: `u16::try_from`, with an unwrap that cannot fail, is no plainer.
     roots[0] = root as u16;
     let mut count = 1;
-    for &node in chain {
-        let k = usize::from(node);
+    // By places: a must-fail edit takes the place i for the record k that stands there.
+    for i in 0..chain.len() {
+        let k = usize::from(chain[i]);
         if 1 < tally[k] {
             return None;
         }
         if k != root && tally[k] == 0 {
-            roots[count] = node;
+            roots[count] = k as u16;
             count += 1;
         }
     }

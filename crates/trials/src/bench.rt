@@ -1,6 +1,8 @@
 // What the cases work on: a table and placements. Some cases bring them, others put them to a call and print its answer, and what it changed.
-use crate::input::{Head, low_byte, next_word};
-use crate::text::{PointBits, Sizes, put_changed, put_placements};
+ghost use Rattle.std.specs.Prelude.{◌≡◌};
+
+use crate::input::{Head, low_byte, next_word, read_full};
+use crate::text::{put, put_changed, put_line, put_placements, put_point};
 use pen::strokes::Stroke;
 use std::io::Read;
 use table::Refusal;
@@ -30,13 +32,17 @@ impl Bench {
     }
 
     // The bytes that follow are the table.
-    pub fn take_table(&mut self, input: &mut impl Read, count: u16) {
+    pub fn take_table(&mut self, input: &mut impl Read, count: u16)
+        ensures { self.new.bytes ≡ count }
+    {
         self.bytes = count;
-        let _ = input.read_exact(&mut self.table[..usize::from(count)]);
+        read_full(input, &mut self.table[..usize::from(count)]);
     }
 
     // The words that follow are the placements. A loop here and one in `fill`, whose numbers come from elsewhere: one over a closure is no plainer.
-    pub fn take_numbers(&mut self, input: &mut impl Read, count: u16) {
+    pub fn take_numbers(&mut self, input: &mut impl Read, count: u16)
+        ensures { self.new.numbers ≡ count }
+    {
         self.numbers = count;
         for number in &mut self.placements[..usize::from(count)] {
             *number = next_word(input);
@@ -44,7 +50,9 @@ impl Bench {
     }
 
     // The first number is first, and each further one is by step more, mod 65536.
-    pub fn fill(&mut self, count: u16, first: u16, step: u16) {
+    pub fn fill(&mut self, count: u16, first: u16, step: u16)
+        ensures { self.new.numbers ≡ count }
+    {
         self.numbers = count;
         let mut next = first;
         for number in &mut self.placements[..usize::from(count)] {
@@ -75,7 +83,8 @@ impl Bench {
         let placements = &mut self.placements[..];
         let drawn = drawing::draw(table, &mut placements[..usize::from(numbers)]);
         let refusal = drawn.refusal.map_or(0, u16::from);
-        let _ = println!(rt; "draw {refusal} {}", Sizes(drawn.plan));
+        let plan = drawn.plan;
+        put_line(rt, "draw", &[refusal, plan.nodes, plan.width, plan.height]);
         put_placements(rt, self.placements());
     }
 
@@ -83,25 +92,25 @@ impl Bench {
         let (bytes, numbers) = (self.bytes, self.numbers);
         let table = &self.table[..usize::from(bytes)];
         let placements = &mut self.placements[..];
-        let _ = match wide::draw_wide(table, &mut placements[..usize::from(numbers)]) {
-            Ok(plan) => println!(rt; "wide {}", Sizes(plan)),
-            Err(refusal) => println!(rt; "wide refused {}", u16::from(refusal)),
-        };
+        match wide::draw_wide(table, &mut placements[..usize::from(numbers)]) {
+            Ok(plan) => put_line(rt, "wide", &[plan.nodes, plan.width, plan.height]),
+            Err(refusal) => put_refused(rt, "wide", refusal),
+        }
         put_placements(rt, self.placements());
     }
 
     pub fn check(&self, rt: &impl Print) {
         let answer = verdict::check(self.table(), self.placements());
-        let _ = println!(rt; "check {}", verdict::number(answer));
+        put_line(rt, "check", &[verdict::number(answer)]);
     }
 
     pub fn stroke(&self, rt: &impl Print, pitch: u16, number: u64) {
-        let _ = match pen::stroke(self.table(), self.placements(), low_byte(pitch), number) {
-            Ok(Some(Stroke::Lift(point))) => println!(rt; "stroke lift {}", PointBits(point)),
-            Ok(Some(Stroke::Draw(point))) => println!(rt; "stroke draw {}", PointBits(point)),
-            Ok(None) => println!(rt; "stroke done"),
-            Err(refusal) => println!(rt; "stroke refused {}", u16::from(refusal)),
-        };
+        match pen::stroke(self.table(), self.placements(), low_byte(pitch), number) {
+            Ok(Some(Stroke::Lift(point))) => put_point(rt, "stroke lift", point),
+            Ok(Some(Stroke::Draw(point))) => put_point(rt, "stroke draw", point),
+            Ok(None) => put(rt, "stroke done\n"),
+            Err(refusal) => put_line(rt, "stroke refused", &[u16::from(refusal)]),
+        }
     }
 
     pub fn hold(&self, rt: &impl Print, head: Head) {
@@ -146,12 +155,18 @@ impl Bench {
     }
 }
 
+// A refusal, behind the name of what is refused.
+fn put_refused(rt: &impl Print, name: &str, refusal: Refusal) {
+    put(rt, name);
+    put_line(rt, " refused", &[u16::from(refusal)]);
+}
+
 // What hanging or its first half says: the record, or the refusal.
 fn put_hung(rt: &impl Print, name: &str, answer: Result<u16, Refusal>) {
-    let _ = match answer {
-        Ok(record) => println!(rt; "{name} {record}"),
-        Err(refusal) => println!(rt; "{name} refused {}", u16::from(refusal)),
-    };
+    match answer {
+        Ok(record) => put_line(rt, name, &[record]),
+        Err(refusal) => put_refused(rt, name, refusal),
+    }
 }
 
 // What a call that writes says: 0, or the refusal.
@@ -160,5 +175,5 @@ fn put_number(rt: &impl Print, name: &str, answer: Result<(), Refusal>) {
         Ok(()) => 0,
         Err(refusal) => u16::from(refusal),
     };
-    let _ = println!(rt; "{name} {number}");
+    put_line(rt, name, &[number]);
 }

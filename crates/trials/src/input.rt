@@ -1,4 +1,4 @@
-// What a case brings: its head, and the bytes, words and numbers that follow it. What cannot be read is 0.
+// What a case brings: its head, and the bytes, words and numbers that follow it. A word that cannot be read is 0.
 use std::io::Read;
 
 // What a case does (main.rt).
@@ -59,21 +59,24 @@ pub struct Head {
     pub step: u16,
 }
 
-// The next bytes; 0 where they cannot be read, and no error, since the program goes on with 0, and what it does may not change.
-fn next_bytes<const N: usize>(input: &mut impl Read) -> [u8; N] {
-    let mut bytes = [0; N];
-    let _ = input.read_exact(&mut bytes);
-    bytes
+// Reads until the bytes are full, the input ends or a read fails, which is no error: what is not read stays as it was.
+pub fn read_full(input: &mut impl Read, bytes: &mut [u8]) {
+    let _ = input.read_exact(bytes);
 }
 
-// A word has 16 bits, low byte first. This and the next are a line each over `next_bytes`; a trait of both would be longer.
+// A word has 16 bits, low byte first.
 pub fn next_word(input: &mut impl Read) -> u16 {
-    u16::from_le_bytes(next_bytes(input))
+    let mut bytes = [0; 2];
+    read_full(input, &mut bytes);
+    u16::from_le_bytes(bytes)
 }
 
-// A number has 64 bits, low byte first.
+// A number has 64 bits: four words, low word first, each a read of its own, so that after a word that cannot be read the next one is tried.
 pub fn next_number(input: &mut impl Read) -> u64 {
-    u64::from_le_bytes(next_bytes(input))
+    u64::from(next_word(input))
+        + 0x1_0000 * u64::from(next_word(input))
+        + 0x1_0000_0000 * u64::from(next_word(input))
+        + 0x1_0000_0000_0000 * u64::from(next_word(input))
 }
 
 // The head of the next case. Where the input has ended, the kind is 0, which is no kind.

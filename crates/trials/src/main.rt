@@ -31,33 +31,34 @@ mod input;
 mod text;
 
 use crate::bench::Bench;
-use crate::input::{Head, Kind, low_byte, next_head, next_number};
+use crate::input::{Head, Kind, low_byte, next_head, next_number, read_full};
+use crate::text::{put, put_line};
 use line::{end, start};
 use segment::meeting::{Meeting, compare};
 use std::io::Read;
 
 fn put_width(rt: &impl Print, h: Head) {
     let n = u64::from(h.count) + 65536 * u64::from(h.first) + 4294967296 * u64::from(h.step);
-    let _ = println!(rt; "width {}", width::allowed_width(n));
+    put_line(rt, "width", &[width::allowed_width(n)]);
 }
 
 // A name, as it stands, and the end of the line.
 fn put_name(rt: &impl Print, input: &mut impl Read, count: u16) {
     let mut name = [0; 256];
     let name = &mut name[..usize::from(low_byte(count))];
-    let _ = input.read_exact(name);
+    read_full(input, name);
     let _ = rt.write_all(name);
-    let _ = println!(rt);
+    put(rt, "\n");
 }
 
 // A line is a number of 64 bits.
 fn put_meeting(rt: &impl Print, a: u64, b: u64) {
-    let _ = match compare(start(a), end(a), start(b), end(b)) {
-        Meeting::Separate => println!(rt; "compare separate"),
-        Meeting::SharedEnd => println!(rt; "compare end"),
-        Meeting::Crossing => println!(rt; "compare crossing"),
-        Meeting::Touching => println!(rt; "compare touching"),
-    };
+    match compare(start(a), end(a), start(b), end(b)) {
+        Meeting::Separate => put(rt, "compare separate\n"),
+        Meeting::SharedEnd => put(rt, "compare end\n"),
+        Meeting::Crossing => put(rt, "compare crossing\n"),
+        Meeting::Touching => put(rt, "compare touching\n"),
+    }
 }
 
 fn run_case(rt: &impl Print, input: &mut impl Read, bench: &mut Bench, head: Head) {

@@ -30,9 +30,9 @@ use Rattle.std.specs.Bool.{then_some}
 use Rattle.verdict.specs.declared.Fault.{Fault}
 use Rattle.verdict.specs.declared.Fault.TheVariants.{OutOfOrder as Disorder}
 use Rattle.verdict.specs.Fault.{number_of, fault_number}
-use Rattle.verdict.specs.inner.Steps.{LinesOf, Rises, Two, line_conditions, worst_verdict}
+use Rattle.verdict.specs.inner.Steps.{LinesOf, FirstNodes, FirstLines, Rises, Two, line_conditions, worst_verdict}
 use Rattle.verdict.proofs.Faults.{some_number}
-use Rattle.verdict.proofs.Places.{same_ends, rising, crossing, clashing}
+use Rattle.verdict.proofs.Places.{all_nodes, all_lines, same_ends, rising, crossing, clashing}
 
 -- ---- the conditions of lines
 
@@ -96,21 +96,27 @@ worst_first m s r w e = inr (s, inr (r, rw e (by_worst m w)))
 -- ---- the first of the lines is the first of the table
 
 module _ {t p nodes ls : List ℕ} (l : Nodes t nodes) (x : LinesOf t p nodes ls) where
+  all : FirstNodes t (length nodes) nodes
+  all = all_nodes l
+
+  lines : FirstLines t p (length nodes) nodes ls
+  lines = all_lines x
+
   apart : (Same (length nodes) ls → ⊥) → SamePoint t p → ⊥
-  apart s y = s ((same_ends p l x).1 y)
+  apart s y = s ((same_ends p all lines).1 y)
 
   none_above : (Rising (length nodes) ls → ⊥) → ChildAbove t p → ⊥
-  none_above r y = r ((rising p l x).1 y)
+  none_above r y = r ((rising p all lines).1 y)
 
   pub some_fault : (f : Fault) → FirstOf (line_conditions (length ls) ls) (number_of f) → FirstOf (conditions t p) (number_of f)
   some_fault f a = go (rw x.long at a)
     where
       go : FirstOf (line_conditions (length nodes) ls) (number_of f) → FirstOf (conditions t p) (number_of f)
-      go (inl (s, e)) = inl ((same_ends p l x).0 s, e)
-      go (inr (s, inl (r, e))) = inr (apart s, inl ((rising p l x).0 r, e))
-      go (inr (s, inr (r, inl (c, e)))) = inr (apart s, inr (none_above r, inl ((crossing p l x).0 c, e)))
+      go (inl (s, e)) = inl ((same_ends p all lines).0 s, e)
+      go (inr (s, inl (r, e))) = inr (apart s, inl ((rising p all lines).0 r, e))
+      go (inr (s, inr (r, inl (c, e)))) = inr (apart s, inr (none_above r, inl ((crossing p all lines).0 c, e)))
       go (inr (s, inr (r, inr (c, inl (d, e))))) =
-          inr (apart s, inr (none_above r, inr (λ y. c ((crossing p l x).1 y), inl ((clashing p l x (apart s)).0 d, e))))
+          inr (apart s, inr (none_above r, inr (λ y. c ((crossing p all lines).1 y), inl ((clashing p all lines (apart s)).0 d, e))))
       go (inr (s, inr (r, inr (c, inr (d, e))))) = absurd (some_number f e)
 
   -- Without a fault of the lines, 24 is what is left.
@@ -123,7 +129,7 @@ module _ {t p nodes ls : List ℕ} (l : Nodes t nodes) (x : LinesOf t p nodes ls
       go (inr (s, inr (r, inl (c, e)))) = absurd (omega arith)
       go (inr (s, inr (r, inr (c, inl (d, e))))) = absurd (omega arith)
       go (inr (s, inr (r, inr (c, inr (d, e))))) =
-          inr (apart s, inr (none_above r, inr (λ y. c ((crossing p l x).1 y), inr (λ y. d ((clashing p l x (apart s)).1 y), o))))
+          inr (apart s, inr (none_above r, inr (λ y. c ((crossing p all lines).1 y), inr (λ y. d ((clashing p all lines (apart s)).1 y), o))))
 
 -- 24 or none, by the answer of the search.
 pub order_fault : {t p : List ℕ} (b : Bool) {r : Option Fault} → T b ↔ OutOfOrder t p → r ≡ then_some b Disorder →

@@ -60,7 +60,9 @@ impl Sheet<'_, '_> {
         self.forest.nodes.iter().any(|&node| self.turned(node))
     }
 
-    // The first fault, of at most N nodes, with a list to work in.
+    // The first fault, of at most N nodes, with a list to work in. Not inlined: its lists would lie on the stack of the check beside those of the reading
+    // (include/bt.h says how much stack there may be).
+    #[inline(never)]
     fn judge_with<const N: usize>(self, abreast: &mut [u16]) -> Option<Fault>
         requires { (length self.forest.nodes.now ≤ N) × (N ≤ 4097) × (length self.forest.nodes.now ≤ length abreast.old) }
         ensures { FirstOf (conditions self.entry.forest.table.now self.entry.placements.now) (fault_number result) }

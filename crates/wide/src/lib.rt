@@ -54,7 +54,11 @@ pub fn draw_wide(table: &[u8], placements: &mut [u16]) -> Result<Plan, Refusal>
     let mut chain = [0u16; 4097];
     let mut order = [0u16; 4097];
     let mut sizes = [0u16; 4097];
-    let nodes = read(table, placements.len(), &mut chain, &mut order, &mut sizes)?;
+    // A `match` and no `?`: what a refusal answers has a line of its own, where a wrong answer can be tried (must-fail/always_one).
+    let nodes = match read(table, placements.len(), &mut chain, &mut order, &mut sizes) {
+        Ok(nodes) => nodes,
+        Err(refusal) => return Err(refusal),
+    };
     if nodes == 0 {
         return Ok(Plan::EMPTY);
     }

@@ -6,7 +6,7 @@ use Rattle.changes.proofs.hold_and_hang.Goals as goal
 pub returns-in_err-leaf : goal.returns-in_err-leaf
 returns-in_err-leaf c = record {
   value = refused _ _ _ c.args.tag _ _ c.from_residual.ensures.1 c.in_err-leaf.ensures;
-  table_after = refused_kept _ _ _ _ _ c.in_err-leaf.ensures;
+  table_after = (refused_kept _ _ _ _ _ c.in_err-leaf.ensures).1;
 }
 
 pub returns : goal.returns

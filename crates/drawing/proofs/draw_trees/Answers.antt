@@ -15,15 +15,12 @@ prepare-requires c =
           c.from-root.ensures;
     }
 
-pub draw_left-top-requires-clause-drawable : goal.draw_left-top-requires-clause-drawable
-draw_left-top-requires-clause-drawable c =
-    stack_drawable _ c.args.subtrees.sound c.requires.chained c.loop-root.invariant.1.1 (omega arith) _ c.requires.led _
-    c.from-root.ensures _ _ _ (omega arith) c.prepare.ensures.prepared
-
-pub draw_left-top-requires-clause-root_nonzero : goal.draw_left-top-requires-clause-root_nonzero
-draw_left-top-requires-clause-root_nonzero c =
-    (stack_record _ c.args.subtrees.sound c.requires.chained c.loop-root.invariant.1.1 (omega arith) _ c.requires.led _
-    c.from-root.ensures).0
+pub draw_tree-top-requires : goal.draw_tree-top-requires
+draw_tree-top-requires c =
+    record {
+      drawable = stack_drawable _ c.args.subtrees.sound c.requires.chained c.loop-root.invariant.1.1 (omega arith) _ c.requires.led _
+          c.from-root.ensures _ _ _ (omega arith) c.prepare.ensures.prepared;
+    }
 
 pub bounds-subtrees-root : goal.bounds-subtrees-root
 bounds-subtrees-root c =
@@ -45,13 +42,13 @@ overflow_sub-unplaced c =
 
 pub loop-root-preserved : goal.loop-root-preserved
 loop-root-preserved c =
-    let stacked : Stacking c.args.subtrees.table.now c.args.placements.now c.max-width.result c.draw_left-top.result
-    (c.loop-root.unplaced - c.from-unplaced.result) (c.loop-root.root-index + 1) c.draw_left-top.new.self.points.now =
+    let stacked : Stacking c.args.subtrees.table.now c.args.placements.now c.max-width.result c.draw_tree-top.result
+    (c.loop-root.unplaced - c.from-unplaced.result) (c.loop-root.root-index + 1) c.draw_tree-top.new.self.points.now =
     stack_step _ c.args.subtrees.sound c.requires.chained c.loop-root.invariant.1.1 (omega arith) _ c.requires.led _
     c.from-root.ensures _ c.args.subtrees.sized _ _ _ _
-    (c.max-width.ensures ∙ omega (arith, c.prepare.ensures.wide)) c.draw_left-top.ensures.drawn
+    (c.max-width.ensures ∙ omega (arith, c.prepare.ensures.wide)) c.draw_tree-top.ensures.drawn
     (ap (λ (n : _). c.loop-root.unplaced - n) c.from-unplaced.ensures)
-    c.draw_left-top.ensures.kept.long in
+    c.draw_tree-top.ensures.kept.long in
     (omega arith, (omega arith, search rules))
 
 pub returns-after-loop-root : goal.returns-after-loop-root

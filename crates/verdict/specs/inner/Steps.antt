@@ -1,5 +1,5 @@
 -- What the steps of a check say to each other. No promise to a caller is here.
-use Rattle.std.specs.Prelude.{◌≡◌, ◌≢◌, List, [], ◌∷◌, ℕ, ◌*◌, ◌≤◌, ◌<◌, T, length, get_or}
+use Rattle.std.specs.Prelude.{◌≡◌, ◌≢◌, List, [], ◌∷◌, ℕ, ◌*◌, ◌≤◌, ◌<◌, T, length, get_or, take}
 use Rattle.segment.specs.declared.Point.{Point}
 use Rattle.segment.specs.declared.meeting.Meeting.{Meeting}
 use Rattle.segment.specs.declared.meeting.Meeting.TheVariants.{Separate, SharedEnd, Crossing, Touching}
@@ -10,6 +10,7 @@ use Rattle.line.specs.inner.Line.{start_of, end_of, last}
 use Rattle.table.specs.Lists.{member}
 use Rattle.table.specs.Table.{Side, records, left_of, right_of, link_of, Line}
 use Rattle.table.specs.Trees.{roots}
+use Rattle.records.specs.inner.Reading.{Nodes}
 use Rattle.placements.specs.Placements.{point_of}
 use Rattle.verdict.specs.Conditions.{InOrder}
 use Rattle.verdict.specs.Verdict.{Condition, numbered}
@@ -17,6 +18,17 @@ use Rattle.verdict.specs.Verdict.{Condition, numbered}
 -- The point of the node at place i of a list of nodes.
 abbrev pub node_at : List ℕ → List ℕ → ℕ → Point
 node_at p nodes i = point_of p (get_or nodes i 0)
+
+-- The first n numbers of a list are the nodes of an accepted table.
+pub record FirstNodes (t : List ℕ) (n : ℕ) (list : List ℕ) : Type 0 where
+  pub long : n ≤ length list
+  pub listed : Nodes t (take n list)
+
+-- The first n lines go to the first n nodes of a list: to a child from its parent, to a root from itself.
+pub record FirstLines (t p : List ℕ) (n : ℕ) (nodes l : List ℕ) : Type 0 where
+  pub ends : (i : ℕ) → i < n → end_of (get_or l i 0) ≡ node_at p nodes i
+  pub from_parent : (i k : ℕ) (s : Side) → i < n → Line t k s (get_or nodes i 0) → start_of (get_or l i 0) ≡ point_of p k
+  pub from_itself : (i : ℕ) → i < n → T (member (get_or nodes i 0) (roots t)) → start_of (get_or l i 0) ≡ node_at p nodes i
 
 -- There is a line for each node of a list, and it goes to it: to a child from its parent, to a root from itself.
 pub record LinesOf (t p nodes l : List ℕ) : Type 0 where

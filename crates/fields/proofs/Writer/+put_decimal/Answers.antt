@@ -3,21 +3,19 @@ use Rattle.std.proofs.Common.{arith}
 use Rattle.fields.proofs.Decimal.{length_one, length_more}
 use Rattle.fields.proofs.Puts.{put_length, put_one, put_more}
 use Rattle.fields.proofs.Writer.+put_decimal.Goals as goal
-use Rattle.fields.proofs.Writer.+put_decimal.Goals.{then-n-ge10, else-n-ge10}
+
+pub put_digit-requires-clause-room : goal.put_digit-requires-clause-room
+put_digit-requires-clause-room t c = omega (arith, length_one c.args.n c.if-n-lt10.true)
 
 pub put_decimal-requires : goal.put_decimal-requires
-put_decimal-requires t c = (omega arith, omega (arith, length_more c.args.n c.if-n-ge10.true))
+put_decimal-requires t c = (omega arith, omega (arith, length_more c.args.n c.if-n-lt10.false))
 
-pub put_byte-requires : goal.put_byte-requires
-put_byte-requires t c =
-    elim c.if-n-ge10.branch [
-      | then-n-ge10 w ↦ rw w.self-is (omega (arith, length_more c.args.n w.if-n-ge10.true, w.put_decimal.ensures.place, put_length w.put_decimal.ensures))
-      | else-n-ge10 w ↦ rw w.self-is (omega (arith, length_one c.args.n w.if-n-ge10.false))
-    ]
+pub put_digit-requires-2-clause-room : goal.put_digit-requires-2-clause-room
+put_digit-requires-2-clause-room t c =
+    omega (arith, length_more c.args.n c.if-n-lt10.false, c.put_decimal.ensures.place, put_length c.put_decimal.ensures)
+
+pub returns-then-n-lt10 : goal.returns-then-n-lt10
+returns-then-n-lt10 t c = put_one c.if-n-lt10.true c.put_digit.ensures
 
 pub returns : goal.returns
-returns t c =
-    elim c.if-n-ge10.branch [
-      | then-n-ge10 w ↦ put_more w.if-n-ge10.true (rw w.self-is w.put_decimal.ensures) c.put_byte.ensures
-      | else-n-ge10 w ↦ put_one w.if-n-ge10.false (rw w.self-is at c.put_byte.ensures)
-    ]
+returns t c = put_more c.if-n-lt10.false c.put_decimal.ensures c.put_digit-2.ensures

@@ -2,5 +2,5 @@
 use Rattle.trees.proofs.Roots.{Noting}
 use Rattle.trees.proofs.naming.list_roots.Given as goal
 
-abbrev pub invariant-loop-node : goal.invariant-loop-node
-invariant-loop-node l = Noting l.table l.chain l.roots l.count l.node-index
+abbrev pub invariant-loop-i : goal.invariant-loop-i
+invariant-loop-i l = Noting l.table l.chain l.roots l.count l.i
